@@ -1,0 +1,5 @@
+-- What a reader of this crate must believe.
+pub mod Config
+pub mod Limits
+pub mod Setters
+pub mod Calls
