@@ -1,2 +1,4 @@
 -- Laws that belong to no one function.
 pub mod Joins
+pub mod Check
+pub mod Building

@@ -3,3 +3,5 @@ pub mod Config
 pub mod Limits
 pub mod Setters
 pub mod Calls
+pub mod Table
+pub mod Built
