@@ -60,14 +60,14 @@ impl CFGR {
         ensures { λ r. ⌜ r ≡ spec.setHse self freq mode ⌝ }
     {
         let hse = hse_of(freq, mode);
-        let refusal = hse_refusal(hse);
-        if refusal == 0 {
+        let number = hse_refusal(hse);
+        if number == 0 {
             let old = self.sources;
             let next = Sources { hse: hse, ..old };
             self.sources = next;
         }
         Setting {
-            refusal: refusal,
+            refusal: number,
             cfgr: self,
         }
     }
