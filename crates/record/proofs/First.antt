@@ -1,5 +1,5 @@
 -- A list of rules in the order of their offsets is kept whole, or the first breach is the lowest: by induction over the list.
-use Prim.Native.Nat.{ℕ, _<_, _≤_}
+use Prim.Native.Nat.{ℕ, _≤_}
 use mathlib.Core.Path.{_≡_, refl, ap, _∙_}
 use mathlib.Core.Bool.{Bool, true, false, _&&_, and-eq-true-iff}
 use mathlib.Core.List.{List, [], _∷_, List·Memᴰ, List·Memᴰ·head, List·Memᴰ·tail, List·Memᴰ·cases-cons, List·Memᴰ·not-nil}
@@ -63,7 +63,7 @@ module _ (b : List ℕ) (r : Rule) (rs : List Rule) where
         breached = l .breached;
         named = l .named;
         lower-kept =
-          λ s m h. ⊎-elim (λ p. ap (keeps b) p ∙ e) (λ m′. l .lower-kept s m′ h) (List·Memᴰ·cases-cons m);
+            λ s m h. ⊎-elim (λ p. ap (keeps b) p ∙ e) (λ m′. l .lower-kept s m′ h) (List·Memᴰ·cases-cons m);
       })
 
   -- the first rule is breached: it is the lowest
@@ -76,16 +76,16 @@ module _ (b : List ℕ) (r : Rule) (rs : List Rule) where
         breached = e;
         named = refl;
         lower-kept =
-          λ s m h.
-          let all-up : rising (offsetOf r) (r ∷ rs) ≡ true =
-              and-eq-true-iff _ _ .1 (le-leb (offsetOf r) (offsetOf r) (omega arith), up) in
-          let not-lower : offsetOf r ≤ offsetOf s = past (offsetOf r) (r ∷ rs) all-up m in
-          absurd (omega arith);
+            λ s m h.
+            let all-up : rising (offsetOf r) (r ∷ rs) ≡ true =
+            and-eq-true-iff _ _ .1 (le-leb (offsetOf r) (offsetOf r) (omega arith), up) in
+            let not-lower : offsetOf r ≤ offsetOf s = past (offsetOf r) (r ∷ rs) all-up m in
+            absurd (omega arith);
       })
 
   by-test :
-    (t : Bool) → rising (offsetOf r) rs ≡ true → keeps b r ≡ t → First b rs (breachFrom b Fine rs)
-    → First b (r ∷ rs) (breachFrom b (noted Fine t (faultOf r)) rs)
+      (t : Bool) → rising (offsetOf r) rs ≡ true → keeps b r ≡ t → First b rs (breachFrom b Fine rs)
+      → First b (r ∷ rs) (breachFrom b (noted Fine t (faultOf r)) rs)
   by-test true up e rest = goes-on e rest
   by-test false up e rest = rw (stays b (faultOf r) rs) (ends up e)
 

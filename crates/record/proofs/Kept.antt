@@ -1,5 +1,5 @@
 -- A record of 64 bytes is well-formed exactly if it keeps every rule of the layout: rule by rule.
-use Prim.Native.Nat.{ℕ, zero, suc, _+_, _-_, _<_, _≤_}
+use Prim.Native.Nat.{ℕ, zero, suc, _+_, _<_, _≤_}
 use mathlib.Core.Path.{_≡_, refl, ap}
 use mathlib.Core.Bool.{Bool, true, false, not, _||_, true≢false}
 use mathlib.Core.List.{List}
@@ -13,6 +13,11 @@ use Rattle.record.specs.Layout.{keeps, number, child, layout, blankRun, 
 use Rattle.record.specs.WellFormed.{WellFormed}
 use Rattle.record.proofs.First.{Kept}
 
+-- a pair, so that the rules of a list stand below each other
+infixr 2 _and_
+abbrev _and_ : {A B : Type 0} → A → B → A × B
+a and b = (a, b)
+
 -- one of two holds exactly if the second does wherever the first doesn't
 or-off : (t u : Bool) → t || u ≡ true → t ≡ false → u ≡ true
 or-off true u h e = absurd (true≢false e)
@@ -24,7 +29,7 @@ off-or false u h = h refl
 
 -- the rules of a run of zero bytes, as a fact of each byte
 run-zero :
-  (b : List ℕ) (at n : ℕ) → Kept b (blankRun at n) → (j : ℕ) → at ≤ j → j < at + n → getD b j 0 ≡ 0
+    (b : List ℕ) (at n : ℕ) → Kept b (blankRun at n) → (j : ℕ) → at ≤ j → j < at + n → getD b j 0 ≡ 0
 unfolding blankRun
 run-zero b at zero k j l u = absurd (omega arith)
 run-zero b at (suc n) k j l u =
@@ -34,12 +39,13 @@ run-zero b at (suc n) k j l u =
     (eq-or-lt-of-le l)
 
 zero-run :
-  (b : List ℕ) (at n : ℕ) → ((j : ℕ) → at ≤ j → j < at + n → getD b j 0 ≡ 0) → Kept b (blankRun at n)
+    (b : List ℕ) (at n : ℕ) → ((j : ℕ) → at ≤ j → j < at + n → getD b j 0 ≡ 0) → Kept b (blankRun at n)
 unfolding blankRun
 zero-run b at zero h = tt
-zero-run b at (suc n) h =
-    (eq-eqb _ _ (h at (omega arith) (omega arith)),
-    zero-run b (at + 1) n (λ j l u. h j (omega arith) (omega arith)))
+zero-run b at (suc n) h = (
+  eq-eqb _ _ (h at (omega arith) (omega arith)),
+  zero-run b (at + 1) n (λ j l u. h j (omega arith) (omega arith)),
+)
 
 module _ (b : List ℕ) where
   -- a rule on a value whose flag is off, and one on a child bit, as facts
@@ -58,7 +64,7 @@ module _ (b : List ℕ) where
   -- every rule of the layout kept: each fact of a well-formed record
   pub well-formed : length b ≡ 64 → Kept b layout → WellFormed b
   unfolding blanks
-  well-formed whole (bits, (hse-by, (lse-by, (pllsai, (p, (sai-p, (m1, (p1, (m2, (p2, (b13, (hse, (hclk, (sysclk, (pclk1, (pclk2, (tail))))))))))))))))) =
+  well-formed whole (bits, (hse-by, (lse-by, (pllsai, (p, (sai-p, (m1, (p1, (m2, (p2, (b13, (hse, (hclk, (sysclk, (pclk1, (pclk2, tail)))))))))))))))) =
       record {
         whole = whole;
         bits-14-15 = ltb-true _ _ bits;
@@ -84,20 +90,20 @@ module _ (b : List ℕ) where
   pub layout-kept : WellFormed b → Kept b layout
   unfolding blanks
   layout-kept w =
-      (lt-ltb _ _ (w .bits-14-15),
-      (parent-kept _ _ (w .hse-bypass),
-      (parent-kept _ _ (w .lse-bypass),
-      (parent-kept _ _ (w .choice-pllsai),
-      (le-leb _ _ (w .p-code),
-      (le-leb _ _ (w .pllsai-p-code),
-      (le-leb _ _ (w .mco1-code),
-      (le-leb _ _ (w .mco1pre-code),
-      (le-leb _ _ (w .mco2-code),
-      (le-leb _ _ (w .mco2pre-code),
-      (eq-eqb _ _ (w .byte-13),
-      (zero-off _ _ (w .hse-off),
-      (zero-off _ _ (w .hclk-off),
-      (zero-off _ _ (w .sysclk-off),
-      (zero-off _ _ (w .pclk1-off),
-      (zero-off _ _ (w .pclk2-off),
-      (zero-run b 40 24 (w .bytes-40-to-63))))))))))))))))))
+      lt-ltb _ _ (w .bits-14-15)
+      and parent-kept _ _ (w .hse-bypass)
+      and parent-kept _ _ (w .lse-bypass)
+      and parent-kept _ _ (w .choice-pllsai)
+      and le-leb _ _ (w .p-code)
+      and le-leb _ _ (w .pllsai-p-code)
+      and le-leb _ _ (w .mco1-code)
+      and le-leb _ _ (w .mco1pre-code)
+      and le-leb _ _ (w .mco2-code)
+      and le-leb _ _ (w .mco2pre-code)
+      and eq-eqb _ _ (w .byte-13)
+      and zero-off _ _ (w .hse-off)
+      and zero-off _ _ (w .hclk-off)
+      and zero-off _ _ (w .sysclk-off)
+      and zero-off _ _ (w .pclk1-off)
+      and zero-off _ _ (w .pclk2-off)
+      and zero-run b 40 24 (w .bytes-40-to-63)

@@ -1,3 +1,4 @@
+-- What is proved of the reader, and the lemmas for it.
 pub mod Blanks
 pub mod First
 pub mod Kept

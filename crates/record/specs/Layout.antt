@@ -14,11 +14,11 @@ use Rattle.record.specs.declared.faults.Found.the-variants.{Fine, At}
 
 -- the kinds of rule
 pub data Rule : Type 0 where
-  reserved-bits : Rule -- bits 14, 15 of the flags are zero
-  child : ℕ → ℕ → Rule -- the first flag needs the second, its parent
-  code : ℕ → ℕ → Rule -- the byte at an offset is a code of 0 to the last
-  blank : ℕ → Rule -- the byte at an offset is zero
-  number : ℕ → ℕ → Rule -- without the flag, the u32 at the offset is zero
+  reserved-bits : Rule  -- bits 14, 15 of the flags are zero
+  child : ℕ → ℕ → Rule  -- the first flag needs the second, its parent
+  code : ℕ → ℕ → Rule  -- the byte at an offset is a code of 0 to the last
+  blank : ℕ → Rule  -- the byte at an offset is zero
+  number : ℕ → ℕ → Rule  -- without the flag, the u32 at the offset is zero
 
 -- the bytes from one offset to before another are zero
 unfoldable pub blankRun : ℕ → ℕ → List Rule

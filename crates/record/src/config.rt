@@ -28,6 +28,7 @@ ghost use Prim.Native.Nat.{_+_, _<_, _≤_};
 ghost use lib.ListN.{length};
 ghost use Rattle.record.specs.Config as spec;
 
+// A divider is a byte, a factor a u16, a frequency a u32.
 fn divider_at(bytes: &[u8], at: usize) -> Divider
     requires { ⌜ at < length (now bytes) ⌝ }
     ensures { λ r. ⌜ r ≡ spec.dividerAt (now (bytes .entry)) at ⌝ }
@@ -95,6 +96,7 @@ fn mcopre_of(code: u8) -> MCOPRE
     }
 }
 
+// The first flag says whether a clock or choice is there, the second which.
 fn hse_of(present: bool, bypass: bool, freq: Hertz) -> HSEClock
     ensures { λ r. ⌜ r ≡ spec.hseOf present bypass freq ⌝ }
 {
@@ -113,7 +115,11 @@ fn lse_of(present: bool, bypass: bool) -> LSEClock
     ensures { λ r. ⌜ r ≡ spec.lseOf present bypass ⌝ }
 {
     if present {
-        if bypass { LSEClock::Bypass } else { LSEClock::Oscillator }
+        if bypass {
+            LSEClock::Bypass
+        } else {
+            LSEClock::Oscillator
+        }
     } else {
         LSEClock::Absent
     }
@@ -123,12 +129,17 @@ fn choice_of(present: bool, pllsai: bool) -> Choice48
     ensures { λ r. ⌜ r ≡ spec.choiceOf present pllsai ⌝ }
 {
     if present {
-        if pllsai { Choice48::Pllsai } else { Choice48::Pllq }
+        if pllsai {
+            Choice48::Pllsai
+        } else {
+            Choice48::Pllq
+        }
     } else {
         Choice48::Absent
     }
 }
 
+// The frequency at the offset, if the flag of this value is on.
 fn request_at(bytes: &[u8], value: u16, at: usize) -> Request
     requires { ⌜ (0 < value) × (at + 4 ≤ length (now bytes)) ⌝ }
     ensures { λ r. ⌜ r ≡ spec.requestAt (now (bytes .entry)) value at ⌝ }
@@ -146,7 +157,11 @@ fn sources_at(bytes: &[u8]) -> Sources
     ensures { λ r. ⌜ r ≡ spec.sourcesOf (now (bytes .entry)) ⌝ }
 {
     let freq = hertz_at(bytes, offsets::HSE);
-    let hse = hse_of(flag(bytes, flags::HSE), flag(bytes, flags::HSE_BYPASS), freq);
+    let hse = hse_of(
+        flag(bytes, flags::HSE),
+        flag(bytes, flags::HSE_BYPASS),
+        freq,
+    );
     let lse = lse_of(flag(bytes, flags::LSE), flag(bytes, flags::LSE_BYPASS));
     let lsi = flag(bytes, flags::LSI);
     Sources { hse, lse, lsi }
@@ -173,7 +188,10 @@ fn pll_at(bytes: &[u8]) -> Pll
     ensures { λ r. ⌜ r ≡ spec.pllOf (now (bytes .entry)) ⌝ }
 {
     let use_pll = flag(bytes, flags::USE_PLL);
-    let pll48clk = choice_of(flag(bytes, flags::CHOICE48), flag(bytes, flags::CHOICE48_PLLSAI));
+    let pll48clk = choice_of(
+        flag(bytes, flags::CHOICE48),
+        flag(bytes, flags::CHOICE48_PLLSAI),
+    );
     let m = divider_at(bytes, offsets::M);
     let n = factor_at(bytes, offsets::N);
     let p = p_of(byte(bytes, offsets::P));
@@ -196,7 +214,12 @@ fn sai_at(bytes: &[u8]) -> Sai
     let n = factor_at(bytes, offsets::PLLSAI_N);
     let p = p_of(byte(bytes, offsets::PLLSAI_P));
     let q = divider_at(bytes, offsets::PLLSAI_Q);
-    Sai { use_pllsai, n, p, q }
+    Sai {
+        use_pllsai,
+        n,
+        p,
+        q,
+    }
 }
 
 fn i2s_at(bytes: &[u8]) -> I2s
@@ -207,7 +230,12 @@ fn i2s_at(bytes: &[u8]) -> I2s
     let n = factor_at(bytes, offsets::PLLI2S_N);
     let r = divider_at(bytes, offsets::PLLI2S_R);
     let q = divider_at(bytes, offsets::PLLI2S_Q);
-    I2s { use_plli2s, n, r, q }
+    I2s {
+        use_plli2s,
+        n,
+        r,
+        q,
+    }
 }
 
 fn mco_at(bytes: &[u8]) -> Mco

@@ -8,7 +8,6 @@ use super::numbers::u32_at;
 use super::offsets;
 ghost use mathlib.Core.Path.{_≡_};
 ghost use Prim.Native.Nat.{_+_, _<_, _≤_};
-ghost use mathlib.Core.Bool.{_||_};
 ghost use lib.ListN.{length};
 ghost use Rattle.record.specs.Layout as spec;
 
@@ -23,37 +22,36 @@ fn note(found: Found, kept: bool, fault: Fault) -> Found
     ensures { λ r. ⌜ r ≡ spec.noted found kept fault ⌝ }
 {
     match found {
-        Found::Fine => {
-            if kept {
-                Found::Fine
-            } else {
-                Found::At(fault)
-            }
-        }
+        Found::Fine => { if kept { Found::Fine } else { Found::At(fault) } }
         Found::At(first) => Found::At(first),
     }
 }
 
-fn either(a: bool, b: bool) -> bool
-    ensures { λ r. ⌜ r ≡ a || b ⌝ }
-{
-    if a { true } else { b }
-}
-
+// Bits 14, 15 of the flags are zero.
 fn reserved_bits(bytes: &[u8], found: Found) -> Found
     requires { ⌜ 64 ≤ length (now bytes) ⌝ }
     ensures { λ r. ⌜ r ≡ spec.looked (now (bytes .entry)) found spec.reserved-bits ⌝ }
 {
-    note(found, u16_at(bytes, offsets::FLAGS) < 16384, Fault::Reserved(offsets::FLAGS))
+    note(
+        found,
+        u16_at(bytes, offsets::FLAGS) < flags::BIT_14,
+        Fault::Reserved(offsets::FLAGS),
+    )
 }
 
+// A bypass or PLLSAI-choice bit needs its parent.
 fn child(bytes: &[u8], found: Found, bit: u16, parent: u16) -> Found
     requires { ⌜ (0 < bit) × (0 < parent) × (64 ≤ length (now bytes)) ⌝ }
     ensures { λ r. ⌜ r ≡ spec.looked (now (bytes .entry)) found (spec.child bit parent) ⌝ }
 {
-    note(found, either(!flag(bytes, bit), flag(bytes, parent)), Fault::Unasked(offsets::FLAGS))
+    note(
+        found,
+        !flag(bytes, bit) | flag(bytes, parent),
+        Fault::Unasked(offsets::FLAGS),
+    )
 }
 
+// The byte at the offset is a code of 0 to the last.
 fn code(bytes: &[u8], found: Found, at: usize, last: u8) -> Found
     requires { ⌜ at < length (now bytes) ⌝ }
     ensures { λ r. ⌜ r ≡ spec.looked (now (bytes .entry)) found (spec.code at last) ⌝ }
@@ -61,6 +59,7 @@ fn code(bytes: &[u8], found: Found, at: usize, last: u8) -> Found
     note(found, byte(bytes, at) <= last, Fault::Code(at))
 }
 
+// The byte at the offset is zero.
 fn blank(bytes: &[u8], found: Found, at: usize) -> Found
     requires { ⌜ at < length (now bytes) ⌝ }
     ensures { λ r. ⌜ r ≡ spec.looked (now (bytes .entry)) found (spec.blank at) ⌝ }
@@ -68,13 +67,19 @@ fn blank(bytes: &[u8], found: Found, at: usize) -> Found
     note(found, byte(bytes, at) == 0, Fault::Reserved(at))
 }
 
+// The u32 at the offset is zero if the flag of this value is off.
 fn number(bytes: &[u8], found: Found, value: u16, at: usize) -> Found
     requires { ⌜ (0 < value) × (at + 4 ≤ length (now bytes)) ⌝ }
     ensures { λ r. ⌜ r ≡ spec.looked (now (bytes .entry)) found (spec.number value at) ⌝ }
 {
-    note(found, either(flag(bytes, value), u32_at(bytes, at) == 0), Fault::Unasked(at))
+    note(
+        found,
+        flag(bytes, value) | (u32_at(bytes, at) == 0),
+        Fault::Unasked(at),
+    )
 }
 
+// The bytes from the first offset to before the end are zero.
 fn blanks(bytes: &[u8], found: Found, from: usize, end: usize) -> Found
     requires { ⌜ (from ≤ end) × (end ≤ length (now bytes)) ⌝ }
     ensures { λ r. ⌜ r ≡ spec.breachFrom (now (bytes .entry)) found (spec.blanks from end) ⌝ }
@@ -122,6 +127,7 @@ fn number_faults(bytes: &[u8], found: Found) -> Found
     number(bytes, f4, flags::PCLK2, offsets::PCLK2)
 }
 
+// The whole layout.
 pub fn find_fault(bytes: &[u8]) -> Found
     requires { ⌜ 64 ≤ length (now bytes) ⌝ }
     ensures { λ r. ⌜ r ≡ spec.breachOf (now (bytes .entry)) ⌝ }

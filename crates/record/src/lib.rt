@@ -26,6 +26,7 @@ pub enum Reading {
     Malformed(Fault),
 }
 
+// With nothing found, the bytes are a configuration.
 fn judge(found: Found, bytes: &[u8]) -> Reading
     requires { ⌜ 64 ≤ length (now bytes) ⌝ }
     ensures { λ r. ⌜ r ≡ judgedOf found (now (bytes .entry)) ⌝ }
@@ -40,7 +41,7 @@ fn judge(found: Found, bytes: &[u8]) -> Reading
 pub fn read_record(bytes: &[u8]) -> Reading
     ensures { λ r. ⌜ r ≡ readOf (now (bytes .entry)) ⌝ }
 {
-    if bytes.len() == 64 {
+    if bytes.len() == offsets::END {
         judge(faults::find_fault(bytes), bytes)
     } else {
         Reading::Malformed(Fault::Length)

@@ -1,30 +1,21 @@
+-- `i2s_at` reads PLLI2S: by what each of its calls hands back.
 use Rattle.record.specs.Config.{i2sOf}
 use borrow.Author.Needs.{needs}
 use Rattle.record.proofs.config.i2s_at.Statement.{statement}
 use Rattle.record.proofs.config.i2s_at.Tie as tie
-use Rattle.record.proofs.config.i2s_at.Reads as reads
-use Rattle.record.proofs.config.i2s_at.Lts as lts
-use Rattle.record.proofs.config.divider_at.Reads as divider-at-reads
-use Rattle.record.proofs.config.factor_at.Reads as factor-at-reads
-use Rattle.record.proofs.numbers.flag.Reads as flag-reads
 
--- src/config.rt:206:9
 flag-requires : tie.Need-flag-requires
 flag-requires c κs = search needs
 
--- src/config.rt:207:9
 factor-at-requires : tie.Need-factor-at-requires
 factor-at-requires c κs = search needs
 
--- src/config.rt:208:9
 divider-at-requires : tie.Need-divider-at-requires
 divider-at-requires c κs = search needs
 
--- src/config.rt:209:9
 divider-at-requires-2 : tie.Need-divider-at-requires-2
 divider-at-requires-2 c κs = search needs
 
--- src/config.rt:202:1
 returns : tie.Need-returns
 unfolding i2sOf
 returns c = rw (c .divider-at2 .ensures, c .before .divider-at .ensures, c .before .before .factor-at .ensures, c .before .before .before .flag .ensures)

@@ -1,26 +1,21 @@
+-- `mco1_of` reads an MCO1 code: one arm a code, the last by what the others left.
 use borrow.Author.Tests.{ne-eqb}
 use Rattle.record.specs.Config.{mco1Of}
 use Rattle.record.proofs.config.mco1_of.Statement.{statement}
 use Rattle.record.proofs.config.mco1_of.Tie as tie
-use Rattle.record.proofs.config.mco1_of.Reads as reads
-use Rattle.record.proofs.config.mco1_of.Lts as lts
 
--- src/config.rt:64:1
 returns : tie.Need-returns
 unfolding mco1Of
 returns c = rw (c .match .keys1)
 
--- src/config.rt:64:1
 returns-2 : tie.Need-returns-2
 unfolding mco1Of
 returns-2 c = rw (c .match .keys2)
 
--- src/config.rt:64:1
 returns-3 : tie.Need-returns-3
 unfolding mco1Of
 returns-3 c = rw (c .match .keys3)
 
--- src/config.rt:64:1
 returns-4 : tie.Need-returns-4
 unfolding mco1Of
 returns-4 c = rw (ne-eqb _ 0 (c .match .rest .0 .0 .1), ne-eqb _ 1 (c .match .rest .0 .1), ne-eqb _ 2 (c .match .rest .1))

@@ -1,31 +1,25 @@
+-- `mcopre_of` reads an MCOPRE code: one arm a code, the last by what the others left.
 use borrow.Author.Tests.{ne-eqb}
 use Rattle.record.specs.Config.{mcopreOf}
 use Rattle.record.proofs.config.mcopre_of.Statement.{statement}
 use Rattle.record.proofs.config.mcopre_of.Tie as tie
-use Rattle.record.proofs.config.mcopre_of.Reads as reads
-use Rattle.record.proofs.config.mcopre_of.Lts as lts
 
--- src/config.rt:86:1
 returns : tie.Need-returns
 unfolding mcopreOf
 returns c = rw (c .match .keys1)
 
--- src/config.rt:86:1
 returns-2 : tie.Need-returns-2
 unfolding mcopreOf
 returns-2 c = rw (c .match .keys2)
 
--- src/config.rt:86:1
 returns-3 : tie.Need-returns-3
 unfolding mcopreOf
 returns-3 c = rw (c .match .keys3)
 
--- src/config.rt:86:1
 returns-4 : tie.Need-returns-4
 unfolding mcopreOf
 returns-4 c = rw (c .match .keys4)
 
--- src/config.rt:86:1
 returns-5 : tie.Need-returns-5
 unfolding mcopreOf
 returns-5 c = rw (ne-eqb _ 0 (c .match .rest .0 .0 .0 .1), ne-eqb _ 1 (c .match .rest .0 .0 .1), ne-eqb _ 2 (c .match .rest .0 .1), ne-eqb _ 3 (c .match .rest .1))

@@ -1,26 +1,21 @@
+-- `p_of` reads a P code: one arm a code, the last by what the others left.
 use borrow.Author.Tests.{ne-eqb}
 use Rattle.record.specs.Config.{pOf}
 use Rattle.record.proofs.config.p_of.Statement.{statement}
 use Rattle.record.proofs.config.p_of.Tie as tie
-use Rattle.record.proofs.config.p_of.Reads as reads
-use Rattle.record.proofs.config.p_of.Lts as lts
 
--- src/config.rt:53:1
 returns : tie.Need-returns
 unfolding pOf
 returns c = rw (c .match .keys1)
 
--- src/config.rt:53:1
 returns-2 : tie.Need-returns-2
 unfolding pOf
 returns-2 c = rw (c .match .keys2)
 
--- src/config.rt:53:1
 returns-3 : tie.Need-returns-3
 unfolding pOf
 returns-3 c = rw (c .match .keys3)
 
--- src/config.rt:53:1
 returns-4 : tie.Need-returns-4
 unfolding pOf
 returns-4 c = rw (ne-eqb _ 0 (c .match .rest .0 .0 .1), ne-eqb _ 1 (c .match .rest .0 .1), ne-eqb _ 2 (c .match .rest .1))

@@ -1,28 +1,21 @@
+-- `requests_at` reads the requests: by what each of its calls hands back.
 use Rattle.record.specs.Config.{requestsOf}
 use borrow.Author.Needs.{needs}
 use Rattle.record.proofs.config.requests_at.Statement.{statement}
 use Rattle.record.proofs.config.requests_at.Tie as tie
-use Rattle.record.proofs.config.requests_at.Reads as reads
-use Rattle.record.proofs.config.requests_at.Lts as lts
-use Rattle.record.proofs.config.request_at.Reads as request-at-reads
 
--- src/config.rt:159:9
 request-at-requires : tie.Need-request-at-requires
 request-at-requires c κs = search needs
 
--- src/config.rt:160:9
 request-at-requires-2 : tie.Need-request-at-requires-2
 request-at-requires-2 c κs = search needs
 
--- src/config.rt:161:9
 request-at-requires-3 : tie.Need-request-at-requires-3
 request-at-requires-3 c κs = search needs
 
--- src/config.rt:162:9
 request-at-requires-4 : tie.Need-request-at-requires-4
 request-at-requires-4 c κs = search needs
 
--- src/config.rt:155:1
 returns : tie.Need-returns
 unfolding requestsOf
 returns c = rw (c .request-at4 .ensures, c .before .request-at3 .ensures, c .before .before .request-at2 .ensures, c .before .before .before .request-at .ensures)

@@ -1,4 +1,4 @@
--- `blanks`: what is found so far and the rest of the run give what the whole run gives.
+-- `blanks` looks at the rules of a run: what is found so far and the rest of the run give what the whole run gives.
 use Prim.Native.Nat.{_≤_, _-_}
 use mathlib.Core.Path.{_≡_, refl, sym, _∙_}
 use native.Mathlib.Omega.{arith}

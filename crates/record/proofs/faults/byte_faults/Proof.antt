@@ -1,40 +1,29 @@
+-- `byte_faults` looks at the rules of bytes 2 to 13: one call a rule, in their order.
 use borrow.Author.Needs.{needs}
 use Rattle.record.proofs.faults.byte_faults.Statement.{statement}
 use Rattle.record.proofs.faults.byte_faults.Tie as tie
-use Rattle.record.proofs.faults.byte_faults.Reads as reads
-use Rattle.record.proofs.faults.byte_faults.Lts as lts
-use Rattle.record.proofs.faults.blank.Reads as blank-reads
-use Rattle.record.proofs.faults.code.Reads as code-reads
 
--- src/faults.rt:105:9
 code-requires : tie.Need-code-requires
 code-requires c κs = search needs
 
--- src/faults.rt:106:9
 code-requires-2 : tie.Need-code-requires-2
 code-requires-2 c κs = search needs
 
--- src/faults.rt:107:9
 code-requires-3 : tie.Need-code-requires-3
 code-requires-3 c κs = search needs
 
--- src/faults.rt:108:9
 code-requires-4 : tie.Need-code-requires-4
 code-requires-4 c κs = search needs
 
--- src/faults.rt:109:9
 code-requires-5 : tie.Need-code-requires-5
 code-requires-5 c κs = search needs
 
--- src/faults.rt:110:9
 code-requires-6 : tie.Need-code-requires-6
 code-requires-6 c κs = search needs
 
--- src/faults.rt:111:5
 blank-requires : tie.Need-blank-requires
 blank-requires c κs = search needs
 
--- src/faults.rt:101:1
 returns : tie.Need-returns
 returns c = rw (c .blank .ensures, c .before .code6 .ensures, c .before .before .code5 .ensures, c .before .before .before .code4 .ensures, c .before .before .before .before .code3 .ensures, c .before .before .before .before .before .code2 .ensures, c .before .before .before .before .before .before .code .ensures)
 

@@ -1,40 +1,30 @@
+-- `u32_at` reads the little-endian u32: by what its two halves are.
 use Rattle.record.specs.Numbers.{u32At}
 use borrow.Author.Needs.{needs}
 use Rattle.record.proofs.numbers.u32_at.Statement.{statement}
 use Rattle.record.proofs.numbers.u32_at.Tie as tie
-use Rattle.record.proofs.numbers.u32_at.Reads as reads
-use Rattle.record.proofs.numbers.u32_at.Lts as lts
-use Rattle.record.proofs.numbers.u16_at.Reads as u16-at-reads
 
--- src/numbers.rt:28:9
 u16-at-requires : tie.Need-u16-at-requires
 u16-at-requires c κs = search needs
 
--- src/numbers.rt:29:30
 add-u16-at : tie.Need-add-u16-at
 add-u16-at c = search needs
 
--- src/numbers.rt:29:9
 u16-at-requires-2 : tie.Need-u16-at-requires-2
 u16-at-requires-2 c κs = search needs
 
--- src/numbers.rt:30:5
 cast-result : tie.Need-cast-result
 cast-result c = search needs
 
--- src/numbers.rt:30:27
 cast-result-2 : tie.Need-cast-result-2
 cast-result-2 c = search needs
 
--- src/numbers.rt:30:18
 mul-result : tie.Need-mul-result
 mul-result c = search needs
 
--- src/numbers.rt:30:5
 add-result : tie.Need-add-result
 add-result c = search needs
 
--- src/numbers.rt:24:1
 returns : tie.Need-returns
 unfolding u32At
 returns c = rw (c .u16-at2 .ensures, c .before .u16-at .ensures)
