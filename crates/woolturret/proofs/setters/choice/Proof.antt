@@ -1,0 +1,19 @@
+use Rattle.woolturret.proofs.setters.choice.Statement.{statement}
+use Rattle.woolturret.proofs.setters.choice.Tie as tie
+use Rattle.woolturret.proofs.setters.choice.Reads as reads
+use Rattle.woolturret.proofs.setters.choice.Lts as lts
+
+-- src/setters.rt:42:1
+returns : tie.Need-returns
+returns c = ?
+
+-- src/setters.rt:42:1
+returns-2 : tie.Need-returns-2
+returns-2 c = ?
+
+-- src/setters.rt:42:1
+returns-3 : tie.Need-returns-3
+returns-3 c = ?
+
+pub choice-spec : {M : Type 1} → statement M
+choice-spec = tie.close (tie.spec returns returns-2 returns-3)

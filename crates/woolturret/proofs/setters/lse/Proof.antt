@@ -1,0 +1,19 @@
+use Rattle.woolturret.proofs.setters.lse.Statement.{statement}
+use Rattle.woolturret.proofs.setters.lse.Tie as tie
+use Rattle.woolturret.proofs.setters.lse.Reads as reads
+use Rattle.woolturret.proofs.setters.lse.Lts as lts
+
+-- src/setters.rt:32:1
+returns : tie.Need-returns
+returns c = ?
+
+-- src/setters.rt:32:1
+returns-2 : tie.Need-returns-2
+returns-2 c = ?
+
+-- src/setters.rt:32:1
+returns-3 : tie.Need-returns-3
+returns-3 c = ?
+
+pub lse-spec : {M : Type 1} → statement M
+lse-spec = tie.close (tie.spec returns returns-2 returns-3)

@@ -1,0 +1,27 @@
+use Rattle.woolturret.proofs.setters.mco2.Statement.{statement}
+use Rattle.woolturret.proofs.setters.mco2.Tie as tie
+use Rattle.woolturret.proofs.setters.mco2.Reads as reads
+use Rattle.woolturret.proofs.setters.mco2.Lts as lts
+
+-- src/setters.rt:87:1
+returns : tie.Need-returns
+returns c = ?
+
+-- src/setters.rt:87:1
+returns-2 : tie.Need-returns-2
+returns-2 c = ?
+
+-- src/setters.rt:87:1
+returns-3 : tie.Need-returns-3
+returns-3 c = ?
+
+-- src/setters.rt:87:1
+returns-4 : tie.Need-returns-4
+returns-4 c = ?
+
+-- src/setters.rt:87:1
+returns-5 : tie.Need-returns-5
+returns-5 c = ?
+
+pub mco2-spec : {M : Type 1} → statement M
+mco2-spec = tie.close (tie.spec returns returns-2 returns-3 returns-4 returns-5)

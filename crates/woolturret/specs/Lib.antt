@@ -1,0 +1,4 @@
+-- What a caller in C must believe.
+pub mod Numbers
+pub mod Named
+pub mod Replies

@@ -1,0 +1,55 @@
+// Functions for C: record bytes and numbers in, numbers out. include/woolturret.h declares them.
+mod numbers;
+mod setters;
+
+use kinds::CFGR;
+use record::Reading;
+use setters::Named;
+ghost use mathlib.Core.Path.{_≡_};
+ghost use Rattle.record.specs.Reading.{readOf};
+ghost use Rattle.woolturret.specs.Replies.{Replied, checkReply, setReply, callReply};
+ghost use Rattle.woolturret.specs.Named.{namedOf};
+
+// The check of 1 to 6 of the configuration that a record holds: 0 where nothing is refused, 14 for a malformed record.
+#[no_mangle]
+pub extern "C" fn woolturret_check(bytes: &[u8]) -> u32
+    ensures { λ r. ⌜ r ≡ checkReply (readOf (now (bytes .entry))) ⌝ }
+{
+    match record::read_record(bytes) {
+        Reading::Malformed(_) => 14,
+        Reading::Config(cfgr) => cfgr.check() as u32,
+    }
+}
+
+// A call on a configuration: its number, and the configuration handed back in out; 14 and out as it was for an unknown call.
+fn reply(cfgr: CFGR, call: Named, out: &mut [u32; 30]) -> u32
+    ensures { λ r. ⌜ Replied (callReply cfgr call (now (out .entry))) r (now (out .exit)) ⌝ }
+{
+    match call {
+        Named::Unknown => 14,
+        Named::Call(setter) => {
+            let set = cfgr.call(setter);
+            let handed = set.cfgr;
+            *out = numbers::numbers_of(handed);
+            set.refusal as u32
+        }
+    }
+}
+
+// One setter called on the configuration that a record holds: its number, and the configuration handed back, as numbers, in out.
+// 14, and out as it was, for a malformed record, an unknown setter or an unknown code.
+#[no_mangle]
+pub extern "C" fn woolturret_set(
+    bytes: &[u8],
+    setter: u32,
+    a: u32,
+    b: u32,
+    out: &mut [u32; 30],
+) -> u32
+    ensures { λ r. ⌜ Replied (setReply (readOf (now (bytes .entry))) (namedOf setter a b) (now (out .entry))) r (now (out .exit)) ⌝ }
+{
+    match record::read_record(bytes) {
+        Reading::Malformed(_) => 14,
+        Reading::Config(cfgr) => reply(cfgr, setters::call_of(setter, a, b), out),
+    }
+}

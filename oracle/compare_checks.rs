@@ -1,0 +1,83 @@
+//! Comparison 2: the check of a record, ours against the least refusal number
+//! among the Rust's assertions when each field is put through its setter.
+
+use hal::rcc::CFGR;
+
+use crate::boundary_records;
+use crate::configuration::{self, at, Numbers};
+use crate::library;
+use crate::panics::{caught, Assertions};
+use crate::random::Random;
+use crate::records;
+use crate::setters::{Call, HSE};
+use crate::tally::{Differences, Tally};
+
+/// Setters of the requests, and the number that is the request's flag.
+const REQUEST_SETTERS: [(u32, usize); 4] =
+    [(1, at::HCLK), (2, at::SYSCLK), (3, at::PCLK1), (4, at::PCLK2)];
+
+/// Setters of the factors and dividers, and the number that they set.
+const FACTOR_SETTERS: [(u32, usize); 8] = [
+    (9, at::M),
+    (10, at::N),
+    (12, at::Q),
+    (14, at::SAI_N),
+    (16, at::SAI_Q),
+    (18, at::I2S_N),
+    (19, at::I2S_Q),
+    (20, at::I2S_R),
+];
+
+/// Compares every boundary record, then `count` random ones; answers how many there were.
+pub fn run(
+    count: u64,
+    random: &mut Random,
+    assertions: &Assertions,
+    differences: &mut Differences,
+) -> u64 {
+    let mut tally = Tally::default();
+    let mut several = 0;
+    let mut compare = |record: &[u8]| {
+        let refusals = refusals(assertions, record);
+        let ours = library::check(record);
+        tally.count(ours);
+        several += u64::from(refusals.len() > 1 && refusals.iter().min() != refusals.iter().max());
+        let least = refusals.into_iter().min().unwrap_or(0);
+        differences.compare(ours, least, || format!("check of the record {record:02x?}"));
+    };
+    for record in boundary_records::all() {
+        compare(&record);
+    }
+    for _ in 0..count {
+        if random.once_in(4) {
+            compare(&records::damaged(random));
+        } else {
+            compare(&configuration::write(&records::random_configuration(random)));
+        }
+    }
+    println!("checks: {} records, of them {several} with several refusals at once", tally.total);
+    tally.print("checks");
+    tally.total
+}
+
+/// Every refusal that a record deserves.
+fn refusals(assertions: &Assertions, record: &[u8]) -> Vec<u32> {
+    let Some(numbers) = configuration::read(record) else {
+        return vec![14];
+    };
+    let set = |call: &Call| caught(assertions, || call.of_the_rust(CFGR::defaults())).err();
+    calls(&numbers).iter().filter_map(set).collect()
+}
+
+/// The setter calls that give a configuration the values which a setter can refuse.
+fn calls(numbers: &Numbers) -> Vec<Call> {
+    let call = |setter, a| Call { setter, a, b: 0 };
+    let requested = REQUEST_SETTERS.iter().filter(|(_, flag)| numbers[*flag] != 0);
+    let mut calls: Vec<Call> =
+        requested.map(|&(setter, flag)| call(setter, numbers[flag + 1])).collect();
+    calls.extend(FACTOR_SETTERS.map(|(setter, number)| call(setter, numbers[number])));
+    if let Some(mode) = numbers[at::HSE_KIND].checked_sub(1) {
+        calls.push(Call { setter: HSE, a: numbers[at::HSE], b: mode });
+    }
+    calls
+}

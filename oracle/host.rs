@@ -1,0 +1,63 @@
+//! The host: runs the static library beside the unchanged Rust. Built for comparing it is
+//! called as `compare COUNT SEED`, built with the cfg `bench` as `bench`.
+
+mod bench;
+mod boundary_cases;
+mod boundary_records;
+mod cases;
+mod compare_checks;
+mod compare_searches;
+mod compare_setters;
+mod configuration;
+mod library;
+mod panics;
+mod random;
+mod records;
+mod self_test;
+mod setters;
+mod tally;
+mod walk;
+
+use std::process::ExitCode;
+
+use panics::Assertions;
+use random::Random;
+use tally::Differences;
+
+fn main() -> ExitCode {
+    let arguments: Vec<String> = std::env::args().skip(1).collect();
+    let numbers: Result<Vec<u64>, _> = arguments.iter().map(|number| number.parse()).collect();
+    match numbers.as_deref() {
+        Ok([]) if cfg!(bench) => {
+            bench::run();
+            ExitCode::SUCCESS
+        }
+        Ok([count, seed]) if !cfg!(bench) => compare(*count, *seed),
+        _ => {
+            eprintln!("usage: {}", if cfg!(bench) { "bench" } else { "compare COUNT SEED" });
+            ExitCode::from(2)
+        }
+    }
+}
+
+/// The boundary lists whole and `count` random cases in each of the three comparisons.
+fn compare(count: u64, seed: u64) -> ExitCode {
+    panics::install();
+    let assertions = Assertions::of_the_rust();
+    let random = &mut Random::new(seed);
+    let mut differences = Differences::default();
+    self_test::run(&assertions, &mut differences);
+    let calls = compare_setters::run(count, random, &assertions, &mut differences);
+    let checks = compare_checks::run(count, random, &assertions, &mut differences);
+    let searches = compare_searches::run(count, random, &assertions, &mut differences);
+    let outcome = match differences.0 {
+        0 => "all equal".to_string(),
+        1 => "1 difference".to_string(),
+        several => format!("{several} differences"),
+    };
+    println!(
+        "compared with the Rust: {calls} setter calls, {checks} checks, {searches} searches: \
+         {outcome} (seed {seed})"
+    );
+    ExitCode::from(u8::from(differences.0 > 0))
+}

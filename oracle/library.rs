@@ -1,0 +1,71 @@
+//! The C functions of the static library, declared once, behind safe functions
+//! that also notice an answer written where none belongs.
+
+use crate::configuration::Numbers;
+
+/// What an answer's numbers hold before a call, to see which are written.
+pub const UNTOUCHED: u32 = 0xA5A5_5A5A;
+
+pub type Window = Option<(u32, u32)>;
+
+mod c {
+    extern "C" {
+        pub fn woolturret_search(
+            input: u32,
+            p: bool,
+            p_low: u32,
+            p_high: u32,
+            q: bool,
+            q_low: u32,
+            q_high: u32,
+            out: *mut u32,
+        ) -> u32;
+        pub fn woolturret_check(record: *const u8, length: usize) -> u32;
+        pub fn woolturret_set(
+            record: *const u8,
+            length: usize,
+            setter: u32,
+            a: u32,
+            b: u32,
+            out: *mut u32,
+        ) -> u32;
+    }
+}
+
+/// The refusal, and passes, M, N, P, Q.
+#[inline]
+pub fn search(input: u32, p: Window, q: Window) -> (u32, [u32; 5]) {
+    // An absent window's ends are passed over; these would change the answer if not.
+    let (p_low, p_high) = p.unwrap_or((0, u32::MAX));
+    let (q_low, q_high) = q.unwrap_or((0, u32::MAX));
+    let mut out = [UNTOUCHED; 5];
+    // SAFETY: `out` is as long as the function writes.
+    let answer = unsafe {
+        c::woolturret_search(
+            input,
+            p.is_some(),
+            p_low,
+            p_high,
+            q.is_some(),
+            q_low,
+            q_high,
+            out.as_mut_ptr(),
+        )
+    };
+    (answer, out)
+}
+
+pub fn check(record: &[u8]) -> u32 {
+    // SAFETY: pointer and length are those of one slice, which is only read.
+    unsafe { c::woolturret_check(record.as_ptr(), record.len()) }
+}
+
+/// The refusal, and the configuration handed back.
+pub fn set(record: &[u8], setter: u32, a: u32, b: u32) -> (u32, Numbers) {
+    let mut out = [UNTOUCHED; 30];
+    // SAFETY: pointer and length are those of one slice, which is only read, and
+    // `out` is as long as the function writes.
+    let answer =
+        unsafe { c::woolturret_set(record.as_ptr(), record.len(), setter, a, b, out.as_mut_ptr()) };
+    (answer, out)
+}
