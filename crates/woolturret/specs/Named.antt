@@ -17,35 +17,38 @@ use Rattle.kinds.specs.declared.MCOPRE.the-variants.{Div1, Div2 as By2, Div3 as
 use Rattle.woolturret.specs.declared.setters.Named.{Named}
 use Rattle.woolturret.specs.declared.setters.Named.the-variants.{Unknown, Call}
 
--- a number past the end of its list names nothing
+-- the call at a number of a list; past its end, none
+unfoldable pub nth : List Named → ℕ → Named
+nth l i = getD l i Unknown
+
 abbrev pub hse : ℕ → ℕ → Named
-hse f code = getD (Call (Hse (record { 0 = f }) Oscillator) ∷ Call (Hse (record { 0 = f }) Bypass) ∷ []) code Unknown
+hse f code = nth (Call (Hse (record { 0 = f }) Oscillator) ∷ Call (Hse (record { 0 = f }) Bypass) ∷ []) code
 
 abbrev pub lse : ℕ → Named
-lse code = getD (Call (Lse LseOscillator) ∷ Call (Lse LseBypass) ∷ []) code Unknown
+lse code = nth (Call (Lse LseOscillator) ∷ Call (Lse LseBypass) ∷ []) code
 
 abbrev pub choice : ℕ → Named
-choice code = getD (Call (UsePll48clk FromPllq) ∷ Call (UsePll48clk FromPllsai) ∷ []) code Unknown
+choice code = nth (Call (UsePll48clk FromPllq) ∷ Call (UsePll48clk FromPllsai) ∷ []) code
 
 abbrev pub pCall : Bool → PLLP → Named
 pCall true x = Call (Pllsaip x)
 pCall false x = Call (Pllp x)
 
 abbrev pub p : Bool → ℕ → Named
-p sai code = getD (pCall sai Div2 ∷ pCall sai Div4 ∷ pCall sai Div6 ∷ pCall sai Div8 ∷ []) code Unknown
+p sai code = nth (pCall sai Div2 ∷ pCall sai Div4 ∷ pCall sai Div6 ∷ pCall sai Div8 ∷ []) code
 
 abbrev pub mco1 : ℕ → Named
-mco1 code = getD (Call (Mco1 Hsi) ∷ Call (Mco1 LseOut) ∷ Call (Mco1 HseOut) ∷ Call (Mco1 PllOut) ∷ []) code Unknown
+mco1 code = nth (Call (Mco1 Hsi) ∷ Call (Mco1 LseOut) ∷ Call (Mco1 HseOut) ∷ Call (Mco1 PllOut) ∷ []) code
 
 abbrev pub mco2 : ℕ → Named
-mco2 code = getD (Call (Mco2 SysclkOut) ∷ Call (Mco2 Plli2sOut) ∷ Call (Mco2 HseOut2) ∷ Call (Mco2 PllOut2) ∷ []) code Unknown
+mco2 code = nth (Call (Mco2 SysclkOut) ∷ Call (Mco2 Plli2sOut) ∷ Call (Mco2 HseOut2) ∷ Call (Mco2 PllOut2) ∷ []) code
 
 abbrev pub preCall : Bool → MCOPRE → Named
 preCall true x = Call (Mco2pre x)
 preCall false x = Call (Mco1pre x)
 
 abbrev pub pre : Bool → ℕ → Named
-pre two code = getD (preCall two Div1 ∷ preCall two By2 ∷ preCall two By3 ∷ preCall two By4 ∷ preCall two By5 ∷ []) code Unknown
+pre two code = nth (preCall two Div1 ∷ preCall two By2 ∷ preCall two By3 ∷ preCall two By4 ∷ preCall two By5 ∷ []) code
 
 abbrev pub calls : ℕ → ℕ → List Named
 calls a b =
@@ -78,5 +81,5 @@ calls a b =
     ∷ []
 
 -- arguments that a setter does not have are passed over
-unfoldable pub namedOf : ℕ → ℕ → ℕ → Named
-namedOf setter a b = getD (calls a b) setter Unknown
+abbrev pub namedOf : ℕ → ℕ → ℕ → Named
+namedOf setter a b = nth (calls a b) setter

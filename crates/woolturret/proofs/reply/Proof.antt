@@ -1,3 +1,4 @@
+use Rattle.woolturret.proofs.Replying.{unknown, replied}
 use borrow.Author.Needs.{needs}
 use Rattle.woolturret.proofs.reply.Statement.{statement}
 use Rattle.woolturret.proofs.reply.Tie as tie
@@ -28,11 +29,11 @@ cast-result c = search needs
 
 -- src/lib.rt:25:1
 returns : tie.Need-returns
-returns c = ?
+returns c = unknown _ _ (c .enum-told .given .1)
 
 -- src/lib.rt:25:1
 returns-2 : tie.Need-returns-2
-returns-2 c = ?
+returns-2 c = replied _ _ (c .before .before .before .before .before .call .given .1) (c .before .before .before .call2 .ensures) (c .before .numbers-of .ensures)
 
 pub reply-spec : {M : Type 1} → statement M
 reply-spec =

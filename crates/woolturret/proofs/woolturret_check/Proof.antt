@@ -1,3 +1,5 @@
+use mathlib.Core.Path.{sym, _∙_}
+use Rattle.woolturret.proofs.Replying.{malformed-check, checked}
 use borrow.Author.Needs.{needs}
 use Rattle.woolturret.proofs.woolturret_check.Statement.{statement}
 use Rattle.woolturret.proofs.woolturret_check.Tie as tie
@@ -28,11 +30,11 @@ cast-result c = search needs
 
 -- src/lib.rt:14:1
 returns : tie.Need-returns
-returns c = ?
+returns c = malformed-check (sym (c .before .before .read-record .ensures) ∙ c .enum-told .given .1)
 
 -- src/lib.rt:14:1
 returns-2 : tie.Need-returns-2
-returns-2 c = ?
+returns-2 c = checked (sym (c .before .before .before .before .read-record .ensures) ∙ c .before .before .cfgr .given .1) (c .check .ensures)
 
 pub woolturret-check-spec : {M : Type 1} → statement M
 woolturret-check-spec =

@@ -1,3 +1,5 @@
+use mathlib.Core.Path.{sym, _∙_}
+use Rattle.woolturret.proofs.Replying.{malformed, called}
 use borrow.Author.Needs.{needs}
 use Rattle.woolturret.proofs.woolturret_set.Statement.{statement}
 use Rattle.woolturret.proofs.woolturret_set.Tie as tie
@@ -29,11 +31,11 @@ reply-requires c κs = search needs
 
 -- src/lib.rt:41:1
 returns : tie.Need-returns
-returns c = ?
+returns c = malformed _ _ (sym (c .before .before .read-record .ensures) ∙ c .enum-told .given .1)
 
 -- src/lib.rt:41:1
 returns-2 : tie.Need-returns-2
-returns-2 c = ?
+returns-2 c = called _ (sym (c .before .before .before .before .before .before .read-record .ensures) ∙ c .before .before .before .before .cfgr .given .1) (c .before .before .call-of .ensures) (c .reply .ensures)
 
 pub woolturret-set-spec : {M : Type 1} → statement M
 woolturret-set-spec =

@@ -1,3 +1,6 @@
+use mathlib.Core.Path.{refl}
+use Rattle.woolturret.proofs.Lists.{both}
+use Rattle.woolturret.specs.Numbers.{numbersOf}
 use borrow.Author.Needs.{needs}
 use Rattle.woolturret.proofs.numbers.numbers_of.Statement.{statement}
 use Rattle.woolturret.proofs.numbers.numbers_of.Tie as tie
@@ -105,7 +108,39 @@ mcopre-code-requires-2 c κs = search needs
 
 -- src/numbers.rt:78:1
 returns : tie.Need-returns
-returns c = ?
+unfolding numbersOf
+returns c =
+    (both (c .before .before .before .before .before .before .before .before .before .before .before .before .before .before .before .before .before .before .before .before .before .hse-kind .ensures)
+    (both (c .before .before .before .before .before .before .before .before .before .before .before .before .before .before .before .before .before .before .before .before .hse-hertz .ensures)
+    (both (c .before .before .before .before .before .before .before .before .before .before .before .before .before .before .before .before .before .before .before .lse-kind .ensures)
+    (both (c .before .before .before .before .before .before .before .before .before .before .before .before .before .before .before .before .before .before .flag .ensures)
+    (both (c .before .before .before .before .before .before .before .before .before .before .before .before .before .before .before .before .before .asked .ensures)
+    (both (c .before .before .before .before .before .before .before .before .before .before .before .before .before .before .before .before .asked-hertz .ensures)
+    (both (c .before .before .before .before .before .before .before .before .before .before .before .before .before .before .before .asked2 .ensures)
+    (both (c .before .before .before .before .before .before .before .before .before .before .before .before .before .before .asked-hertz2 .ensures)
+    (both (c .before .before .before .before .before .before .before .before .before .before .before .before .before .asked3 .ensures)
+    (both (c .before .before .before .before .before .before .before .before .before .before .before .before .asked-hertz3 .ensures)
+    (both (c .before .before .before .before .before .before .before .before .before .before .before .asked4 .ensures)
+    (both (c .before .before .before .before .before .before .before .before .before .before .asked-hertz4 .ensures)
+    (both (c .before .before .before .before .before .before .before .before .before .flag2 .ensures)
+    (both (c .before .before .before .before .before .before .before .before .choice .ensures)
+    (both refl
+    (both refl
+    (both (c .before .before .before .before .before .before .before .pllp-code .ensures)
+    (both refl
+    (both (c .before .before .before .before .before .before .flag3 .ensures)
+    (both refl
+    (both (c .before .before .before .before .before .pllp-code2 .ensures)
+    (both refl
+    (both (c .before .before .before .before .flag4 .ensures)
+    (both refl
+    (both refl
+    (both refl
+    (both (c .before .before .before .mco1-code .ensures)
+    (both (c .before .before .mcopre-code .ensures)
+    (both (c .before .mco2-code .ensures)
+    (both (c .mcopre-code2 .ensures)
+    refl))))))))))))))))))))))))))))))
 
 pub numbers-of-spec : {M : Type 1} → statement M
 numbers-of-spec =

@@ -1,3 +1,5 @@
+use mathlib.Core.Path.{refl}
+use Rattle.woolturret.proofs.Lists.{picked, unpicked}
 use borrow.Author.Needs.{needs}
 use Rattle.woolturret.proofs.setters.call_of.Statement.{statement}
 use Rattle.woolturret.proofs.setters.call_of.Tie as tie
@@ -49,111 +51,111 @@ pre-requires-2 c κs = search needs
 
 -- src/setters.rt:124:1
 returns : tie.Need-returns
-returns c = ?
+returns c = picked _ (c .before .match .keys1) (c .hse .ensures)
 
 -- src/setters.rt:124:1
 returns-2 : tie.Need-returns-2
-returns-2 c = ?
+returns-2 c = picked _ (c .match .keys2) refl
 
 -- src/setters.rt:124:1
 returns-3 : tie.Need-returns-3
-returns-3 c = ?
+returns-3 c = picked _ (c .match .keys3) refl
 
 -- src/setters.rt:124:1
 returns-4 : tie.Need-returns-4
-returns-4 c = ?
+returns-4 c = picked _ (c .match .keys4) refl
 
 -- src/setters.rt:124:1
 returns-5 : tie.Need-returns-5
-returns-5 c = ?
+returns-5 c = picked _ (c .match .keys5) refl
 
 -- src/setters.rt:124:1
 returns-6 : tie.Need-returns-6
-returns-6 c = ?
+returns-6 c = picked _ (c .before .match .keys6) (c .lse .ensures)
 
 -- src/setters.rt:124:1
 returns-7 : tie.Need-returns-7
-returns-7 c = ?
+returns-7 c = picked _ (c .match .keys7) refl
 
 -- src/setters.rt:124:1
 returns-8 : tie.Need-returns-8
-returns-8 c = ?
+returns-8 c = picked _ (c .match .keys8) refl
 
 -- src/setters.rt:124:1
 returns-9 : tie.Need-returns-9
-returns-9 c = ?
+returns-9 c = picked _ (c .before .match .keys9) (c .choice .ensures)
 
 -- src/setters.rt:124:1
 returns-10 : tie.Need-returns-10
-returns-10 c = ?
+returns-10 c = picked _ (c .match .keys10) refl
 
 -- src/setters.rt:124:1
 returns-11 : tie.Need-returns-11
-returns-11 c = ?
+returns-11 c = picked _ (c .match .keys11) refl
 
 -- src/setters.rt:124:1
 returns-12 : tie.Need-returns-12
-returns-12 c = ?
+returns-12 c = picked _ (c .before .match .keys12) (c .p .ensures)
 
 -- src/setters.rt:124:1
 returns-13 : tie.Need-returns-13
-returns-13 c = ?
+returns-13 c = picked _ (c .match .keys13) refl
 
 -- src/setters.rt:124:1
 returns-14 : tie.Need-returns-14
-returns-14 c = ?
+returns-14 c = picked _ (c .match .keys14) refl
 
 -- src/setters.rt:124:1
 returns-15 : tie.Need-returns-15
-returns-15 c = ?
+returns-15 c = picked _ (c .match .keys15) refl
 
 -- src/setters.rt:124:1
 returns-16 : tie.Need-returns-16
-returns-16 c = ?
+returns-16 c = picked _ (c .before .match .keys16) (c .p2 .ensures)
 
 -- src/setters.rt:124:1
 returns-17 : tie.Need-returns-17
-returns-17 c = ?
+returns-17 c = picked _ (c .match .keys17) refl
 
 -- src/setters.rt:124:1
 returns-18 : tie.Need-returns-18
-returns-18 c = ?
+returns-18 c = picked _ (c .match .keys18) refl
 
 -- src/setters.rt:124:1
 returns-19 : tie.Need-returns-19
-returns-19 c = ?
+returns-19 c = picked _ (c .match .keys19) refl
 
 -- src/setters.rt:124:1
 returns-20 : tie.Need-returns-20
-returns-20 c = ?
+returns-20 c = picked _ (c .match .keys20) refl
 
 -- src/setters.rt:124:1
 returns-21 : tie.Need-returns-21
-returns-21 c = ?
+returns-21 c = picked _ (c .match .keys21) refl
 
 -- src/setters.rt:124:1
 returns-22 : tie.Need-returns-22
-returns-22 c = ?
+returns-22 c = picked _ (c .before .match .keys22) (c .mco1 .ensures)
 
 -- src/setters.rt:124:1
 returns-23 : tie.Need-returns-23
-returns-23 c = ?
+returns-23 c = picked _ (c .before .match .keys23) (c .pre2 .ensures)
 
 -- src/setters.rt:124:1
 returns-24 : tie.Need-returns-24
-returns-24 c = ?
+returns-24 c = picked _ (c .before .match .keys24) (c .mco2 .ensures)
 
 -- src/setters.rt:124:1
 returns-25 : tie.Need-returns-25
-returns-25 c = ?
+returns-25 c = picked _ (c .before .match .keys25) (c .pre3 .ensures)
 
 -- src/setters.rt:124:1
 returns-26 : tie.Need-returns-26
-returns-26 c = ?
+returns-26 c = picked _ (c .match .keys26) refl
 
 -- src/setters.rt:124:1
 returns-27 : tie.Need-returns-27
-returns-27 c = ?
+returns-27 c = unpicked _ _ (c .match .rest)
 
 pub call-of-spec : {M : Type 1} → statement M
 call-of-spec =

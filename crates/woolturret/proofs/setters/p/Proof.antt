@@ -1,3 +1,4 @@
+use Rattle.woolturret.proofs.Lists.{picked, unpicked}
 use borrow.Author.Needs.{needs}
 use Rattle.woolturret.proofs.setters.p.Statement.{statement}
 use Rattle.woolturret.proofs.setters.p.Tie as tie
@@ -23,23 +24,23 @@ p-call-requires-4 c κs = search needs
 
 -- src/setters.rt:63:1
 returns : tie.Need-returns
-returns c = ?
+returns c = picked _ (c .before .match .keys1) (c .p-call .ensures)
 
 -- src/setters.rt:63:1
 returns-2 : tie.Need-returns-2
-returns-2 c = ?
+returns-2 c = picked _ (c .before .match .keys2) (c .p-call2 .ensures)
 
 -- src/setters.rt:63:1
 returns-3 : tie.Need-returns-3
-returns-3 c = ?
+returns-3 c = picked _ (c .before .match .keys3) (c .p-call3 .ensures)
 
 -- src/setters.rt:63:1
 returns-4 : tie.Need-returns-4
-returns-4 c = ?
+returns-4 c = picked _ (c .before .match .keys4) (c .p-call4 .ensures)
 
 -- src/setters.rt:63:1
 returns-5 : tie.Need-returns-5
-returns-5 c = ?
+returns-5 c = unpicked _ _ (c .match .rest)
 
 pub p-spec : {M : Type 1} → statement M
 p-spec =

@@ -1,3 +1,4 @@
+use Rattle.woolturret.proofs.Lists.{picked, unpicked}
 use borrow.Author.Needs.{needs}
 use Rattle.woolturret.proofs.setters.pre.Statement.{statement}
 use Rattle.woolturret.proofs.setters.pre.Tie as tie
@@ -27,27 +28,27 @@ pre-call-requires-5 c κs = search needs
 
 -- src/setters.rt:110:1
 returns : tie.Need-returns
-returns c = ?
+returns c = picked _ (c .before .match .keys1) (c .pre-call .ensures)
 
 -- src/setters.rt:110:1
 returns-2 : tie.Need-returns-2
-returns-2 c = ?
+returns-2 c = picked _ (c .before .match .keys2) (c .pre-call2 .ensures)
 
 -- src/setters.rt:110:1
 returns-3 : tie.Need-returns-3
-returns-3 c = ?
+returns-3 c = picked _ (c .before .match .keys3) (c .pre-call3 .ensures)
 
 -- src/setters.rt:110:1
 returns-4 : tie.Need-returns-4
-returns-4 c = ?
+returns-4 c = picked _ (c .before .match .keys4) (c .pre-call4 .ensures)
 
 -- src/setters.rt:110:1
 returns-5 : tie.Need-returns-5
-returns-5 c = ?
+returns-5 c = picked _ (c .before .match .keys5) (c .pre-call5 .ensures)
 
 -- src/setters.rt:110:1
 returns-6 : tie.Need-returns-6
-returns-6 c = ?
+returns-6 c = unpicked _ _ (c .match .rest)
 
 pub pre-spec : {M : Type 1} → statement M
 pre-spec =

@@ -1,0 +1,44 @@
+-- What an exported function answers follows from what the record reads as and from the call made.
+use Prim.Native.Nat.{ℕ}
+use mathlib.Core.Path.{_≡_, refl}
+use mathlib.Core.List.{List}
+use Rattle.kinds.specs.Limits.{checkOf}
+use Rattle.kinds.specs.Calls.{callOf}
+use Rattle.kinds.specs.declared.CFGR.{CFGR}
+use Rattle.kinds.specs.declared.Setting.{Setting}
+use Rattle.kinds.specs.declared.calls.Setter.{Setter}
+use Rattle.record.specs.Reading.{numberOf}
+use Rattle.record.specs.declared.Fault.{Fault}
+use Rattle.record.specs.declared.Fault.the-variants.{Length, Reserved, Code, Unasked}
+use Rattle.record.specs.declared.Reading.{Reading}
+use Rattle.record.specs.declared.Reading.the-variants.{Config, Malformed}
+use Rattle.woolturret.specs.Numbers.{numbersOf}
+use Rattle.woolturret.specs.Replies.{Replied, checkReply, callReply, setReply}
+use Rattle.woolturret.specs.declared.setters.Named.{Named}
+use Rattle.woolturret.specs.declared.setters.Named.the-variants.{Unknown, Call}
+
+malformed-14 : (f : Fault) → numberOf f ≡ 14
+malformed-14 Length = refl
+malformed-14 (Reserved at) = refl
+malformed-14 (Code at) = refl
+malformed-14 (Unasked at) = refl
+
+-- the check
+pub malformed-check : {x : Reading} {f : Fault} → x ≡ Malformed f → 14 ≡ checkReply x
+malformed-check {x} {f} e = rw (e, malformed-14 f)
+
+pub checked : {x : Reading} {c : CFGR} {n : ℕ} → x ≡ Config c → n ≡ checkOf c → n ≡ checkReply x
+checked e p = rw (e, p)
+
+-- a setter's call
+pub unknown : (c : CFGR) {n : Named} (out : List ℕ) → n ≡ Unknown → Replied (callReply c n out) 14 out
+unknown c out e = rw e (record { answer = refl; holds = refl })
+
+pub replied : (c : CFGR) {n : Named} {s : Setter} {t : Setting} {l : List ℕ} (out : List ℕ) → n ≡ Call s → t ≡ callOf c s → l ≡ numbersOf (t .cfgr) → Replied (callReply c n out) (t .refusal) l
+replied c out e p q = rw (e, q, p) (record { answer = refl; holds = refl })
+
+pub malformed : {x : Reading} {f : Fault} (n : Named) (out : List ℕ) → x ≡ Malformed f → Replied (setReply x n out) 14 out
+malformed {x} {f} n out e = rw e (record { answer = rw (malformed-14 f); holds = refl })
+
+pub called : {x : Reading} {c : CFGR} {n m : Named} {r : ℕ} {l : List ℕ} (out : List ℕ) → x ≡ Config c → n ≡ m → Replied (callReply c n out) r l → Replied (setReply x m out) r l
+called out e p w = rw e (rw p at w)
