@@ -2,3 +2,4 @@
 pub mod Joins
 pub mod Check
 pub mod Building
+pub mod Refusing

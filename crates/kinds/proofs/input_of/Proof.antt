@@ -1,33 +1,26 @@
+-- `input_of` meets its contract: case by case.
 use Rattle.kinds.specs.Config.{inputOf}
 use borrow.Author.Needs.{needs}
 use Rattle.kinds.proofs.input_of.Statement.{statement}
 use Rattle.kinds.proofs.input_of.Tie as tie
-use Rattle.kinds.proofs.input_of.Reads as reads
-use Rattle.kinds.proofs.input_of.Lts as lts
 
--- src/lib.rt:197:29
 enum-told : tie.Need-enum-told
 enum-told c = search needs
 
--- src/lib.rt:198:30
 enum-known-hse : tie.Need-enum-known-hse
 enum-known-hse c = search needs
 
--- src/lib.rt:199:26
 enum-known-hse-2 : tie.Need-enum-known-hse-2
 enum-known-hse-2 c = search needs
 
--- src/lib.rt:193:1
 returns : tie.Need-returns
 unfolding inputOf
 returns c = cc
 
--- src/lib.rt:193:1
 returns-2 : tie.Need-returns-2
 unfolding inputOf
 returns-2 c = cc
 
--- src/lib.rt:193:1
 returns-3 : tie.Need-returns-3
 unfolding inputOf
 returns-3 c = cc

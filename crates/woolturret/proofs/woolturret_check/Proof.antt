@@ -1,38 +1,28 @@
+-- `woolturret_check` meets its contract: from what the record reads as.
 use mathlib.Core.Path.{sym, _∙_}
 use Rattle.woolturret.proofs.Replying.{malformed-check, checked}
 use borrow.Author.Needs.{needs}
 use Rattle.woolturret.proofs.woolturret_check.Statement.{statement}
 use Rattle.woolturret.proofs.woolturret_check.Tie as tie
-use Rattle.woolturret.proofs.woolturret_check.Reads as reads
-use Rattle.woolturret.proofs.woolturret_check.Lts as lts
-use Rattle.kinds.proofs.CFGR.check.Reads as check-reads
-use Rattle.record.proofs.read_record.Reads as read-record-reads
 
--- src/lib.rt:18:11
 read-record-requires : tie.Need-read-record-requires
 read-record-requires c κs = search needs
 
--- src/lib.rt:19:34
 enum-told : tie.Need-enum-told
 enum-told c = search needs
 
--- src/lib.rt:20:25
 enum-known-cfgr : tie.Need-enum-known-cfgr
 enum-known-cfgr c = search needs
 
--- src/lib.rt:20:34
 check-requires : tie.Need-check-requires
 check-requires c κs = search needs
 
--- src/lib.rt:20:34
 cast-result : tie.Need-cast-result
 cast-result c = search needs
 
--- src/lib.rt:14:1
 returns : tie.Need-returns
 returns c = malformed-check (sym (c .before .before .read-record .ensures) ∙ c .enum-told .given .1)
 
--- src/lib.rt:14:1
 returns-2 : tie.Need-returns-2
 returns-2 c = checked (sym (c .before .before .before .before .read-record .ensures) ∙ c .before .before .cfgr .given .1) (c .check .ensures)
 

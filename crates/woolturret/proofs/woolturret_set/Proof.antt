@@ -1,39 +1,28 @@
+-- `woolturret_set` meets its contract: from what the record reads as.
 use mathlib.Core.Path.{sym, _∙_}
 use Rattle.woolturret.proofs.Replying.{malformed, called}
 use borrow.Author.Needs.{needs}
 use Rattle.woolturret.proofs.woolturret_set.Statement.{statement}
 use Rattle.woolturret.proofs.woolturret_set.Tie as tie
-use Rattle.woolturret.proofs.woolturret_set.Reads as reads
-use Rattle.woolturret.proofs.woolturret_set.Lts as lts
-use Rattle.record.proofs.read_record.Reads as read-record-reads
-use Rattle.woolturret.proofs.reply.Reads as reply-reads
-use Rattle.woolturret.proofs.setters.call_of.Reads as call-of-reads
 
--- src/lib.rt:51:11
 read-record-requires : tie.Need-read-record-requires
 read-record-requires c κs = search needs
 
--- src/lib.rt:52:34
 enum-told : tie.Need-enum-told
 enum-told c = search needs
 
--- src/lib.rt:53:25
 enum-known-cfgr : tie.Need-enum-known-cfgr
 enum-known-cfgr c = search needs
 
--- src/lib.rt:53:46
 call-of-requires : tie.Need-call-of-requires
 call-of-requires c κs = search needs
 
--- src/lib.rt:53:34
 reply-requires : tie.Need-reply-requires
 reply-requires c κs = search needs
 
--- src/lib.rt:41:1
 returns : tie.Need-returns
 returns c = malformed _ _ (sym (c .before .before .read-record .ensures) ∙ c .enum-told .given .1)
 
--- src/lib.rt:41:1
 returns-2 : tie.Need-returns-2
 returns-2 c = called _ (sym (c .before .before .before .before .before .before .read-record .ensures) ∙ c .before .before .before .before .cfgr .given .1) (c .before .before .call-of .ensures) (c .reply .ensures)
 

@@ -1,371 +1,266 @@
+-- `CFGR::call` meets its contract: each arm is the setter that the value names.
 use Rattle.kinds.specs.Calls.{callOf}
 use Rattle.kinds.proofs.Joins.{called}
 use borrow.Author.Needs.{needs}
 use Rattle.kinds.proofs.CFGR.call.Statement.{statement}
 use Rattle.kinds.proofs.CFGR.call.Tie as tie
-use Rattle.kinds.proofs.CFGR.call.Reads as reads
-use Rattle.kinds.proofs.CFGR.call.Lts as lts
-use Rattle.kinds.proofs.CFGR.hclk.Reads as hclk-reads
-use Rattle.kinds.proofs.CFGR.hse.Reads as hse-reads
-use Rattle.kinds.proofs.CFGR.lse.Reads as lse-reads
-use Rattle.kinds.proofs.CFGR.lsi.Reads as lsi-reads
-use Rattle.kinds.proofs.CFGR.mco1.Reads as mco1-reads
-use Rattle.kinds.proofs.CFGR.mco1pre.Reads as mco1pre-reads
-use Rattle.kinds.proofs.CFGR.mco2.Reads as mco2-reads
-use Rattle.kinds.proofs.CFGR.mco2pre.Reads as mco2pre-reads
-use Rattle.kinds.proofs.CFGR.pclk1.Reads as pclk1-reads
-use Rattle.kinds.proofs.CFGR.pclk2.Reads as pclk2-reads
-use Rattle.kinds.proofs.CFGR.plli2sn.Reads as plli2sn-reads
-use Rattle.kinds.proofs.CFGR.plli2sq.Reads as plli2sq-reads
-use Rattle.kinds.proofs.CFGR.plli2sr.Reads as plli2sr-reads
-use Rattle.kinds.proofs.CFGR.pllm.Reads as pllm-reads
-use Rattle.kinds.proofs.CFGR.plln.Reads as plln-reads
-use Rattle.kinds.proofs.CFGR.pllp.Reads as pllp-reads
-use Rattle.kinds.proofs.CFGR.pllq.Reads as pllq-reads
-use Rattle.kinds.proofs.CFGR.pllsain.Reads as pllsain-reads
-use Rattle.kinds.proofs.CFGR.pllsaip.Reads as pllsaip-reads
-use Rattle.kinds.proofs.CFGR.pllsaiq.Reads as pllsaiq-reads
-use Rattle.kinds.proofs.CFGR.set_defaults.Reads as set-defaults-reads
-use Rattle.kinds.proofs.CFGR.sysclk.Reads as sysclk-reads
-use Rattle.kinds.proofs.CFGR.use_pll.Reads as use-pll-reads
-use Rattle.kinds.proofs.CFGR.use_pll48clk.Reads as use-pll48clk-reads
-use Rattle.kinds.proofs.CFGR.use_plli2s.Reads as use-plli2s-reads
-use Rattle.kinds.proofs.CFGR.use_pllsai.Reads as use-pllsai-reads
 
--- src/calls.rt:52:25
 enum-known-setter : tie.Need-enum-known-setter
 enum-known-setter c = search needs
 
--- src/calls.rt:52:34
 hse-requires : tie.Need-hse-requires
 hse-requires c κs = search needs
 
--- src/calls.rt:53:26
 enum-known-setter-2 : tie.Need-enum-known-setter-2
 enum-known-setter-2 c = search needs
 
--- src/calls.rt:53:32
 hclk-requires : tie.Need-hclk-requires
 hclk-requires c κs = search needs
 
--- src/calls.rt:54:28
 enum-known-setter-3 : tie.Need-enum-known-setter-3
 enum-known-setter-3 c = search needs
 
--- src/calls.rt:54:34
 sysclk-requires : tie.Need-sysclk-requires
 sysclk-requires c κs = search needs
 
--- src/calls.rt:55:27
 enum-known-setter-4 : tie.Need-enum-known-setter-4
 enum-known-setter-4 c = search needs
 
--- src/calls.rt:55:33
 pclk1-requires : tie.Need-pclk1-requires
 pclk1-requires c κs = search needs
 
--- src/calls.rt:56:27
 enum-known-setter-5 : tie.Need-enum-known-setter-5
 enum-known-setter-5 c = search needs
 
--- src/calls.rt:56:33
 pclk2-requires : tie.Need-pclk2-requires
 pclk2-requires c κs = search needs
 
--- src/calls.rt:57:25
 enum-known-setter-6 : tie.Need-enum-known-setter-6
 enum-known-setter-6 c = search needs
 
--- src/calls.rt:57:31
 lse-requires : tie.Need-lse-requires
 lse-requires c κs = search needs
 
--- src/calls.rt:58:28
 enum-told : tie.Need-enum-told
 enum-told c = search needs
 
--- src/calls.rt:58:28
 lsi-requires : tie.Need-lsi-requires
 lsi-requires c κs = search needs
 
--- src/calls.rt:59:31
 enum-told-2 : tie.Need-enum-told-2
 enum-told-2 c = search needs
 
--- src/calls.rt:59:31
 use-pll-requires : tie.Need-use-pll-requires
 use-pll-requires c κs = search needs
 
--- src/calls.rt:60:33
 enum-known-setter-7 : tie.Need-enum-known-setter-7
 enum-known-setter-7 c = search needs
 
--- src/calls.rt:60:39
 use-pll48clk-requires : tie.Need-use-pll48clk-requires
 use-pll48clk-requires c κs = search needs
 
--- src/calls.rt:61:26
 enum-known-setter-8 : tie.Need-enum-known-setter-8
 enum-known-setter-8 c = search needs
 
--- src/calls.rt:61:32
 pllm-requires : tie.Need-pllm-requires
 pllm-requires c κs = search needs
 
--- src/calls.rt:62:26
 enum-known-setter-9 : tie.Need-enum-known-setter-9
 enum-known-setter-9 c = search needs
 
--- src/calls.rt:62:32
 plln-requires : tie.Need-plln-requires
 plln-requires c κs = search needs
 
--- src/calls.rt:63:26
 enum-known-setter-10 : tie.Need-enum-known-setter-10
 enum-known-setter-10 c = search needs
 
--- src/calls.rt:63:32
 pllp-requires : tie.Need-pllp-requires
 pllp-requires c κs = search needs
 
--- src/calls.rt:64:26
 enum-known-setter-11 : tie.Need-enum-known-setter-11
 enum-known-setter-11 c = search needs
 
--- src/calls.rt:64:32
 pllq-requires : tie.Need-pllq-requires
 pllq-requires c κs = search needs
 
--- src/calls.rt:65:34
 enum-told-3 : tie.Need-enum-told-3
 enum-told-3 c = search needs
 
--- src/calls.rt:65:34
 use-pllsai-requires : tie.Need-use-pllsai-requires
 use-pllsai-requires c κs = search needs
 
--- src/calls.rt:66:29
 enum-known-setter-12 : tie.Need-enum-known-setter-12
 enum-known-setter-12 c = search needs
 
--- src/calls.rt:66:35
 pllsain-requires : tie.Need-pllsain-requires
 pllsain-requires c κs = search needs
 
--- src/calls.rt:67:29
 enum-known-setter-13 : tie.Need-enum-known-setter-13
 enum-known-setter-13 c = search needs
 
--- src/calls.rt:67:35
 pllsaip-requires : tie.Need-pllsaip-requires
 pllsaip-requires c κs = search needs
 
--- src/calls.rt:68:29
 enum-known-setter-14 : tie.Need-enum-known-setter-14
 enum-known-setter-14 c = search needs
 
--- src/calls.rt:68:35
 pllsaiq-requires : tie.Need-pllsaiq-requires
 pllsaiq-requires c κs = search needs
 
--- src/calls.rt:69:34
 enum-told-4 : tie.Need-enum-told-4
 enum-told-4 c = search needs
 
--- src/calls.rt:69:34
 use-plli2s-requires : tie.Need-use-plli2s-requires
 use-plli2s-requires c κs = search needs
 
--- src/calls.rt:70:29
 enum-known-setter-15 : tie.Need-enum-known-setter-15
 enum-known-setter-15 c = search needs
 
--- src/calls.rt:70:35
 plli2sn-requires : tie.Need-plli2sn-requires
 plli2sn-requires c κs = search needs
 
--- src/calls.rt:71:29
 enum-known-setter-16 : tie.Need-enum-known-setter-16
 enum-known-setter-16 c = search needs
 
--- src/calls.rt:71:35
 plli2sq-requires : tie.Need-plli2sq-requires
 plli2sq-requires c κs = search needs
 
--- src/calls.rt:72:29
 enum-known-setter-17 : tie.Need-enum-known-setter-17
 enum-known-setter-17 c = search needs
 
--- src/calls.rt:72:35
 plli2sr-requires : tie.Need-plli2sr-requires
 plli2sr-requires c κs = search needs
 
--- src/calls.rt:73:26
 enum-known-setter-18 : tie.Need-enum-known-setter-18
 enum-known-setter-18 c = search needs
 
--- src/calls.rt:73:32
 mco1-requires : tie.Need-mco1-requires
 mco1-requires c κs = search needs
 
--- src/calls.rt:74:29
 enum-known-setter-19 : tie.Need-enum-known-setter-19
 enum-known-setter-19 c = search needs
 
--- src/calls.rt:74:35
 mco1pre-requires : tie.Need-mco1pre-requires
 mco1pre-requires c κs = search needs
 
--- src/calls.rt:75:26
 enum-known-setter-20 : tie.Need-enum-known-setter-20
 enum-known-setter-20 c = search needs
 
--- src/calls.rt:75:32
 mco2-requires : tie.Need-mco2-requires
 mco2-requires c κs = search needs
 
--- src/calls.rt:76:29
 enum-known-setter-21 : tie.Need-enum-known-setter-21
 enum-known-setter-21 c = search needs
 
--- src/calls.rt:76:35
 mco2pre-requires : tie.Need-mco2pre-requires
 mco2pre-requires c κs = search needs
 
--- src/calls.rt:77:36
 enum-told-5 : tie.Need-enum-told-5
 enum-told-5 c = search needs
 
--- src/calls.rt:77:36
 set-defaults-requires : tie.Need-set-defaults-requires
 set-defaults-requires c κs = search needs
 
--- src/calls.rt:48:5
 returns : tie.Need-returns
 unfolding callOf
 returns c = called _ (c .before .before .setter .given .1) (c .hse .ensures)
 
--- src/calls.rt:48:5
 returns-2 : tie.Need-returns-2
 unfolding callOf
 returns-2 c = called _ (c .before .before .setter2 .given .1) (c .hclk .ensures)
 
--- src/calls.rt:48:5
 returns-3 : tie.Need-returns-3
 unfolding callOf
 returns-3 c = called _ (c .before .before .setter3 .given .1) (c .sysclk .ensures)
 
--- src/calls.rt:48:5
 returns-4 : tie.Need-returns-4
 unfolding callOf
 returns-4 c = called _ (c .before .before .setter4 .given .1) (c .pclk1 .ensures)
 
--- src/calls.rt:48:5
 returns-5 : tie.Need-returns-5
 unfolding callOf
 returns-5 c = called _ (c .before .before .setter5 .given .1) (c .pclk2 .ensures)
 
--- src/calls.rt:48:5
 returns-6 : tie.Need-returns-6
 unfolding callOf
 returns-6 c = called _ (c .before .before .setter6 .given .1) (c .lse .ensures)
 
--- src/calls.rt:48:5
 returns-7 : tie.Need-returns-7
 unfolding callOf
 returns-7 c = called _ (c .before .enum-told .given .1) (c .lsi .ensures)
 
--- src/calls.rt:48:5
 returns-8 : tie.Need-returns-8
 unfolding callOf
 returns-8 c = called _ (c .before .enum-told2 .given .1) (c .use-pll .ensures)
 
--- src/calls.rt:48:5
 returns-9 : tie.Need-returns-9
 unfolding callOf
 returns-9 c = called _ (c .before .before .setter7 .given .1) (c .use-pll48clk .ensures)
 
--- src/calls.rt:48:5
 returns-10 : tie.Need-returns-10
 unfolding callOf
 returns-10 c = called _ (c .before .before .setter8 .given .1) (c .pllm .ensures)
 
--- src/calls.rt:48:5
 returns-11 : tie.Need-returns-11
 unfolding callOf
 returns-11 c = called _ (c .before .before .setter9 .given .1) (c .plln .ensures)
 
--- src/calls.rt:48:5
 returns-12 : tie.Need-returns-12
 unfolding callOf
 returns-12 c = called _ (c .before .before .setter10 .given .1) (c .pllp .ensures)
 
--- src/calls.rt:48:5
 returns-13 : tie.Need-returns-13
 unfolding callOf
 returns-13 c = called _ (c .before .before .setter11 .given .1) (c .pllq .ensures)
 
--- src/calls.rt:48:5
 returns-14 : tie.Need-returns-14
 unfolding callOf
 returns-14 c = called _ (c .before .enum-told3 .given .1) (c .use-pllsai .ensures)
 
--- src/calls.rt:48:5
 returns-15 : tie.Need-returns-15
 unfolding callOf
 returns-15 c = called _ (c .before .before .setter12 .given .1) (c .pllsain .ensures)
 
--- src/calls.rt:48:5
 returns-16 : tie.Need-returns-16
 unfolding callOf
 returns-16 c = called _ (c .before .before .setter13 .given .1) (c .pllsaip .ensures)
 
--- src/calls.rt:48:5
 returns-17 : tie.Need-returns-17
 unfolding callOf
 returns-17 c = called _ (c .before .before .setter14 .given .1) (c .pllsaiq .ensures)
 
--- src/calls.rt:48:5
 returns-18 : tie.Need-returns-18
 unfolding callOf
 returns-18 c = called _ (c .before .enum-told4 .given .1) (c .use-plli2s .ensures)
 
--- src/calls.rt:48:5
 returns-19 : tie.Need-returns-19
 unfolding callOf
 returns-19 c = called _ (c .before .before .setter15 .given .1) (c .plli2sn .ensures)
 
--- src/calls.rt:48:5
 returns-20 : tie.Need-returns-20
 unfolding callOf
 returns-20 c = called _ (c .before .before .setter16 .given .1) (c .plli2sq .ensures)
 
--- src/calls.rt:48:5
 returns-21 : tie.Need-returns-21
 unfolding callOf
 returns-21 c = called _ (c .before .before .setter17 .given .1) (c .plli2sr .ensures)
 
--- src/calls.rt:48:5
 returns-22 : tie.Need-returns-22
 unfolding callOf
 returns-22 c = called _ (c .before .before .setter18 .given .1) (c .mco1 .ensures)
 
--- src/calls.rt:48:5
 returns-23 : tie.Need-returns-23
 unfolding callOf
 returns-23 c = called _ (c .before .before .setter19 .given .1) (c .mco1pre .ensures)
 
--- src/calls.rt:48:5
 returns-24 : tie.Need-returns-24
 unfolding callOf
 returns-24 c = called _ (c .before .before .setter20 .given .1) (c .mco2 .ensures)
 
--- src/calls.rt:48:5
 returns-25 : tie.Need-returns-25
 unfolding callOf
 returns-25 c = called _ (c .before .before .setter21 .given .1) (c .mco2pre .ensures)
 
--- src/calls.rt:48:5
 returns-26 : tie.Need-returns-26
 unfolding callOf
 returns-26 c = called _ (c .before .enum-told5 .given .1) (c .set-defaults .ensures)

@@ -1,54 +1,37 @@
+-- `CFGR::check` meets its contract: the groups' first refusals, joined in the order of their numbers.
 use Rattle.kinds.proofs.Joins.{firsts}
 use Rattle.kinds.specs.Limits.{checkOf}
 use borrow.Author.Needs.{needs}
 use Rattle.kinds.proofs.CFGR.check.Statement.{statement}
 use Rattle.kinds.proofs.CFGR.check.Tie as tie
-use Rattle.kinds.proofs.CFGR.check.Reads as reads
-use Rattle.kinds.proofs.CFGR.check.Lts as lts
-use Rattle.kinds.proofs.limits.first_of.Reads as first-of-reads
-use Rattle.kinds.proofs.limits.hse_refusal.Reads as hse-refusal-reads
-use Rattle.kinds.proofs.limits.i2s_refusal.Reads as i2s-refusal-reads
-use Rattle.kinds.proofs.limits.pll_refusal.Reads as pll-refusal-reads
-use Rattle.kinds.proofs.limits.requests_refusal.Reads as requests-refusal-reads
-use Rattle.kinds.proofs.limits.sai_refusal.Reads as sai-refusal-reads
 
--- src/limits.rt:104:29
 pll-refusal-requires : tie.Need-pll-refusal-requires
 pll-refusal-requires c κs = search needs
 
--- src/limits.rt:104:54
 sai-refusal-requires : tie.Need-sai-refusal-requires
 sai-refusal-requires c κs = search needs
 
--- src/limits.rt:104:70
 i2s-refusal-requires : tie.Need-i2s-refusal-requires
 i2s-refusal-requires c κs = search needs
 
--- src/limits.rt:104:45
 first-of-requires : tie.Need-first-of-requires
 first-of-requires c κs = search needs
 
--- src/limits.rt:104:13
 first-of-requires-2 : tie.Need-first-of-requires-2
 first-of-requires-2 c κs = search needs
 
--- src/limits.rt:105:18
 hse-refusal-requires : tie.Need-hse-refusal-requires
 hse-refusal-requires c κs = search needs
 
--- src/limits.rt:105:45
 requests-refusal-requires : tie.Need-requests-refusal-requires
 requests-refusal-requires c κs = search needs
 
--- src/limits.rt:105:36
 first-of-requires-3 : tie.Need-first-of-requires-3
 first-of-requires-3 c κs = search needs
 
--- src/limits.rt:105:9
 first-of-requires-4 : tie.Need-first-of-requires-4
 first-of-requires-4 c κs = search needs
 
--- src/limits.rt:95:5
 returns : tie.Need-returns
 unfolding checkOf
 returns c =

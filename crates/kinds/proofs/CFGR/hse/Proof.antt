@@ -1,25 +1,18 @@
+-- `CFGR::hse` meets its contract: taken where the range test of the clock made gives 0, else kept as it came.
 use Rattle.kinds.proofs.Joins.{hse-accepted, hse-kept}
 use borrow.Author.Needs.{needs}
 use Rattle.kinds.proofs.CFGR.hse.Statement.{statement}
 use Rattle.kinds.proofs.CFGR.hse.Tie as tie
-use Rattle.kinds.proofs.CFGR.hse.Reads as reads
-use Rattle.kinds.proofs.CFGR.hse.Lts as lts
-use Rattle.kinds.proofs.limits.hse_refusal.Reads as hse-refusal-reads
-use Rattle.kinds.proofs.setters.hse_of.Reads as hse-of-reads
 
--- src/setters.rt:62:13
 hse-of-requires : tie.Need-hse-of-requires
 hse-of-requires c κs = search needs
 
--- src/setters.rt:63:13
 hse-refusal-requires : tie.Need-hse-refusal-requires
 hse-refusal-requires c κs = search needs
 
--- src/setters.rt:59:5
 returns : tie.Need-returns
 returns c = hse-accepted _ (c .before .before .hse-refusal .ensures) (c .before .before .before .hse-of .ensures) (c .before .if1 .taken)
 
--- src/setters.rt:59:5
 returns-2 : tie.Need-returns-2
 returns-2 c = hse-kept _ (c .before .hse-refusal .ensures) (c .before .before .hse-of .ensures) (c .if1 .left)
 

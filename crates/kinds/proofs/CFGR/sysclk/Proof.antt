@@ -1,20 +1,15 @@
+-- `CFGR::sysclk` meets its contract: taken where the range test gives 0, else kept as it came.
 use Rattle.kinds.proofs.Joins.{accepted, kept}
 use borrow.Author.Needs.{needs}
 use Rattle.kinds.proofs.CFGR.sysclk.Statement.{statement}
 use Rattle.kinds.proofs.CFGR.sysclk.Tie as tie
-use Rattle.kinds.proofs.CFGR.sysclk.Reads as reads
-use Rattle.kinds.proofs.CFGR.sysclk.Lts as lts
-use Rattle.kinds.proofs.limits.outside.Reads as outside-reads
 
--- src/setters.rt:98:13
 outside-requires : tie.Need-outside-requires
 outside-requires c κs = search needs
 
--- src/setters.rt:95:5
 returns : tie.Need-returns
 returns c = accepted _ _ (c .before .before .outside .ensures) (c .before .if1 .taken)
 
--- src/setters.rt:95:5
 returns-2 : tie.Need-returns-2
 returns-2 c = kept _ _ (c .before .outside .ensures) (c .if1 .left)
 

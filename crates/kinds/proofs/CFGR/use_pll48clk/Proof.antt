@@ -1,15 +1,11 @@
+-- `CFGR::use_pll48clk` meets its contract: the group with the choice that the argument makes.
 use borrow.Author.Needs.{needs}
 use Rattle.kinds.proofs.CFGR.use_pll48clk.Statement.{statement}
 use Rattle.kinds.proofs.CFGR.use_pll48clk.Tie as tie
-use Rattle.kinds.proofs.CFGR.use_pll48clk.Reads as reads
-use Rattle.kinds.proofs.CFGR.use_pll48clk.Lts as lts
-use Rattle.kinds.proofs.setters.choice_of.Reads as choice-of-reads
 
--- src/setters.rt:191:13
 choice-of-requires : tie.Need-choice-of-requires
 choice-of-requires c κs = search needs
 
--- src/setters.rt:188:5
 returns : tie.Need-returns
 returns c = cc
 

@@ -1,39 +1,29 @@
+-- `limits::hse_refusal` meets its contract: case by case, each by its range test.
 use borrow.Author.Needs.{needs}
 use Rattle.kinds.proofs.limits.hse_refusal.Statement.{statement}
 use Rattle.kinds.proofs.limits.hse_refusal.Tie as tie
-use Rattle.kinds.proofs.limits.hse_refusal.Reads as reads
-use Rattle.kinds.proofs.limits.hse_refusal.Lts as lts
-use Rattle.kinds.proofs.limits.outside.Reads as outside-reads
 
--- src/limits.rt:39:29
 enum-told : tie.Need-enum-told
 enum-told c = search needs
 
--- src/limits.rt:40:30
 enum-known-hse : tie.Need-enum-known-hse
 enum-known-hse c = search needs
 
--- src/limits.rt:40:36
 outside-requires : tie.Need-outside-requires
 outside-requires c κs = search needs
 
--- src/limits.rt:41:26
 enum-known-hse-2 : tie.Need-enum-known-hse-2
 enum-known-hse-2 c = search needs
 
--- src/limits.rt:41:32
 outside-requires-2 : tie.Need-outside-requires-2
 outside-requires-2 c κs = search needs
 
--- src/limits.rt:35:1
 returns : tie.Need-returns
 returns c = search needs
 
--- src/limits.rt:35:1
 returns-2 : tie.Need-returns-2
 returns-2 c = cc
 
--- src/limits.rt:35:1
 returns-3 : tie.Need-returns-3
 returns-3 c = cc
 

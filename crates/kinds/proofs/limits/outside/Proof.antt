@@ -1,21 +1,17 @@
+-- `limits::outside` meets its contract: each branch by its test.
 use borrow.Author.Tests.{lt-leb, le-leb}
 use Rattle.kinds.specs.Limits.{outsideOf}
 use Rattle.kinds.proofs.limits.outside.Statement.{statement}
 use Rattle.kinds.proofs.limits.outside.Tie as tie
-use Rattle.kinds.proofs.limits.outside.Reads as reads
-use Rattle.kinds.proofs.limits.outside.Lts as lts
 
--- src/limits.rt:16:1
 returns : tie.Need-returns
 unfolding outsideOf
 returns c = simp (lt-leb _ _ (c .if1 .taken))
 
--- src/limits.rt:16:1
 returns-2 : tie.Need-returns-2
 unfolding outsideOf
 returns-2 c = simp (le-leb _ _ (c .before .if1 .left), lt-leb _ _ (c .if2 .taken))
 
--- src/limits.rt:16:1
 returns-3 : tie.Need-returns-3
 unfolding outsideOf
 returns-3 c = simp (le-leb _ _ (c .before .if1 .left), le-leb _ _ (c .if2 .left))

@@ -1,41 +1,30 @@
+-- `limits::requests_refusal` meets its contract: the parts' refusals, joined in their order.
 use Rattle.kinds.proofs.Joins.{firsts}
 use borrow.Author.Needs.{needs}
 use Rattle.kinds.proofs.limits.requests_refusal.Statement.{statement}
 use Rattle.kinds.proofs.limits.requests_refusal.Tie as tie
-use Rattle.kinds.proofs.limits.requests_refusal.Reads as reads
-use Rattle.kinds.proofs.limits.requests_refusal.Lts as lts
-use Rattle.kinds.proofs.limits.asked_refusal.Reads as asked-refusal-reads
-use Rattle.kinds.proofs.limits.first_of.Reads as first-of-reads
 
--- src/limits.rt:62:9
 asked-refusal-requires : tie.Need-asked-refusal-requires
 asked-refusal-requires c κs = search needs
 
--- src/limits.rt:63:9
 asked-refusal-requires-2 : tie.Need-asked-refusal-requires-2
 asked-refusal-requires-2 c κs = search needs
 
--- src/limits.rt:64:9
 asked-refusal-requires-3 : tie.Need-asked-refusal-requires-3
 asked-refusal-requires-3 c κs = search needs
 
--- src/limits.rt:65:9
 asked-refusal-requires-4 : tie.Need-asked-refusal-requires-4
 asked-refusal-requires-4 c κs = search needs
 
--- src/limits.rt:66:29
 first-of-requires : tie.Need-first-of-requires
 first-of-requires c κs = search needs
 
--- src/limits.rt:66:17
 first-of-requires-2 : tie.Need-first-of-requires-2
 first-of-requires-2 c κs = search needs
 
--- src/limits.rt:66:5
 first-of-requires-3 : tie.Need-first-of-requires-3
 first-of-requires-3 c κs = search needs
 
--- src/limits.rt:55:1
 returns : tie.Need-returns
 returns c = firsts (c .first-of3 .ensures) (c .before .before .before .before .before .before .asked-refusal .ensures) (firsts (c .before .first-of2 .ensures) (c .before .before .before .before .before .asked-refusal2 .ensures) (firsts (c .before .before .first-of .ensures) (c .before .before .before .before .asked-refusal3 .ensures) (c .before .before .before .asked-refusal4 .ensures)))
 

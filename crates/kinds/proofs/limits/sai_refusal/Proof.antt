@@ -1,25 +1,18 @@
+-- `limits::sai_refusal` meets its contract: the parts' refusals, joined in their order.
 use Rattle.kinds.proofs.Joins.{firsts}
 use borrow.Author.Needs.{needs}
 use Rattle.kinds.proofs.limits.sai_refusal.Statement.{statement}
 use Rattle.kinds.proofs.limits.sai_refusal.Tie as tie
-use Rattle.kinds.proofs.limits.sai_refusal.Reads as reads
-use Rattle.kinds.proofs.limits.sai_refusal.Lts as lts
-use Rattle.kinds.proofs.limits.first_of.Reads as first-of-reads
-use Rattle.kinds.proofs.limits.outside.Reads as outside-reads
 
--- src/limits.rt:81:14
 outside-requires : tie.Need-outside-requires
 outside-requires c κs = search needs
 
--- src/limits.rt:81:42
 outside-requires-2 : tie.Need-outside-requires-2
 outside-requires-2 c κs = search needs
 
--- src/limits.rt:81:5
 first-of-requires : tie.Need-first-of-requires
 first-of-requires c κs = search needs
 
--- src/limits.rt:78:1
 returns : tie.Need-returns
 returns c = firsts (c .first-of .ensures) (c .before .before .outside .ensures) (c .before .outside2 .ensures)
 

@@ -1,112 +1,77 @@
+-- `numbers::numbers_of` meets its contract: number by number.
 use mathlib.Core.Path.{refl}
 use Rattle.woolturret.proofs.Lists.{both}
 use Rattle.woolturret.specs.Numbers.{numbersOf}
 use borrow.Author.Needs.{needs}
 use Rattle.woolturret.proofs.numbers.numbers_of.Statement.{statement}
 use Rattle.woolturret.proofs.numbers.numbers_of.Tie as tie
-use Rattle.woolturret.proofs.numbers.numbers_of.Reads as reads
-use Rattle.woolturret.proofs.numbers.numbers_of.Lts as lts
-use Rattle.kinds.proofs.codes.mco1_code.Reads as mco1-code-reads
-use Rattle.kinds.proofs.codes.mco2_code.Reads as mco2-code-reads
-use Rattle.kinds.proofs.codes.mcopre_code.Reads as mcopre-code-reads
-use Rattle.kinds.proofs.codes.pllp_code.Reads as pllp-code-reads
-use Rattle.woolturret.proofs.numbers.asked.Reads as asked-reads
-use Rattle.woolturret.proofs.numbers.asked_hertz.Reads as asked-hertz-reads
-use Rattle.woolturret.proofs.numbers.choice.Reads as choice-reads
-use Rattle.woolturret.proofs.numbers.flag.Reads as flag-reads
-use Rattle.woolturret.proofs.numbers.hse_hertz.Reads as hse-hertz-reads
-use Rattle.woolturret.proofs.numbers.hse_kind.Reads as hse-kind-reads
-use Rattle.woolturret.proofs.numbers.lse_kind.Reads as lse-kind-reads
 
--- src/numbers.rt:101:9
 hse-kind-requires : tie.Need-hse-kind-requires
 hse-kind-requires c κs = search needs
 
--- src/numbers.rt:102:9
 hse-hertz-requires : tie.Need-hse-hertz-requires
 hse-hertz-requires c κs = search needs
 
--- src/numbers.rt:103:9
 lse-kind-requires : tie.Need-lse-kind-requires
 lse-kind-requires c κs = search needs
 
--- src/numbers.rt:104:9
 flag-requires : tie.Need-flag-requires
 flag-requires c κs = search needs
 
--- src/numbers.rt:105:9
 asked-requires : tie.Need-asked-requires
 asked-requires c κs = search needs
 
--- src/numbers.rt:106:9
 asked-hertz-requires : tie.Need-asked-hertz-requires
 asked-hertz-requires c κs = search needs
 
--- src/numbers.rt:107:9
 asked-requires-2 : tie.Need-asked-requires-2
 asked-requires-2 c κs = search needs
 
--- src/numbers.rt:108:9
 asked-hertz-requires-2 : tie.Need-asked-hertz-requires-2
 asked-hertz-requires-2 c κs = search needs
 
--- src/numbers.rt:109:9
 asked-requires-3 : tie.Need-asked-requires-3
 asked-requires-3 c κs = search needs
 
--- src/numbers.rt:110:9
 asked-hertz-requires-3 : tie.Need-asked-hertz-requires-3
 asked-hertz-requires-3 c κs = search needs
 
--- src/numbers.rt:111:9
 asked-requires-4 : tie.Need-asked-requires-4
 asked-requires-4 c κs = search needs
 
--- src/numbers.rt:112:9
 asked-hertz-requires-4 : tie.Need-asked-hertz-requires-4
 asked-hertz-requires-4 c κs = search needs
 
--- src/numbers.rt:113:9
 flag-requires-2 : tie.Need-flag-requires-2
 flag-requires-2 c κs = search needs
 
--- src/numbers.rt:114:9
 choice-requires : tie.Need-choice-requires
 choice-requires c κs = search needs
 
--- src/numbers.rt:117:9
 pllp-code-requires : tie.Need-pllp-code-requires
 pllp-code-requires c κs = search needs
 
--- src/numbers.rt:119:9
 flag-requires-3 : tie.Need-flag-requires-3
 flag-requires-3 c κs = search needs
 
--- src/numbers.rt:121:9
 pllp-code-requires-2 : tie.Need-pllp-code-requires-2
 pllp-code-requires-2 c κs = search needs
 
--- src/numbers.rt:123:9
 flag-requires-4 : tie.Need-flag-requires-4
 flag-requires-4 c κs = search needs
 
--- src/numbers.rt:127:9
 mco1-code-requires : tie.Need-mco1-code-requires
 mco1-code-requires c κs = search needs
 
--- src/numbers.rt:128:9
 mcopre-code-requires : tie.Need-mcopre-code-requires
 mcopre-code-requires c κs = search needs
 
--- src/numbers.rt:129:9
 mco2-code-requires : tie.Need-mco2-code-requires
 mco2-code-requires c κs = search needs
 
--- src/numbers.rt:130:9
 mcopre-code-requires-2 : tie.Need-mcopre-code-requires-2
 mcopre-code-requires-2 c κs = search needs
 
--- src/numbers.rt:78:1
 returns : tie.Need-returns
 unfolding numbersOf
 returns c =

@@ -1,19 +1,15 @@
+-- `setters::hse` meets its contract: the arm of a number is the list's element there, and the last arm is past its end.
 use mathlib.Core.Path.{refl}
 use Rattle.woolturret.proofs.Lists.{picked, unpicked}
 use Rattle.woolturret.proofs.setters.hse.Statement.{statement}
 use Rattle.woolturret.proofs.setters.hse.Tie as tie
-use Rattle.woolturret.proofs.setters.hse.Reads as reads
-use Rattle.woolturret.proofs.setters.hse.Lts as lts
 
--- src/setters.rt:22:1
 returns : tie.Need-returns
 returns c = picked _ (c .match .keys1) refl
 
--- src/setters.rt:22:1
 returns-2 : tie.Need-returns-2
 returns-2 c = picked _ (c .match .keys2) refl
 
--- src/setters.rt:22:1
 returns-3 : tie.Need-returns-3
 returns-3 c = unpicked _ _ (c .match .rest)
 

@@ -1,44 +1,33 @@
+-- `setters::p` meets its contract: the arm of a number is the list's element there, and the last arm is past its end.
 use Rattle.woolturret.proofs.Lists.{picked, unpicked}
 use borrow.Author.Needs.{needs}
 use Rattle.woolturret.proofs.setters.p.Statement.{statement}
 use Rattle.woolturret.proofs.setters.p.Tie as tie
-use Rattle.woolturret.proofs.setters.p.Reads as reads
-use Rattle.woolturret.proofs.setters.p.Lts as lts
-use Rattle.woolturret.proofs.setters.p_call.Reads as p-call-reads
 
--- src/setters.rt:67:14
 p-call-requires : tie.Need-p-call-requires
 p-call-requires c κs = search needs
 
--- src/setters.rt:68:14
 p-call-requires-2 : tie.Need-p-call-requires-2
 p-call-requires-2 c κs = search needs
 
--- src/setters.rt:69:14
 p-call-requires-3 : tie.Need-p-call-requires-3
 p-call-requires-3 c κs = search needs
 
--- src/setters.rt:70:14
 p-call-requires-4 : tie.Need-p-call-requires-4
 p-call-requires-4 c κs = search needs
 
--- src/setters.rt:63:1
 returns : tie.Need-returns
 returns c = picked _ (c .before .match .keys1) (c .p-call .ensures)
 
--- src/setters.rt:63:1
 returns-2 : tie.Need-returns-2
 returns-2 c = picked _ (c .before .match .keys2) (c .p-call2 .ensures)
 
--- src/setters.rt:63:1
 returns-3 : tie.Need-returns-3
 returns-3 c = picked _ (c .before .match .keys3) (c .p-call3 .ensures)
 
--- src/setters.rt:63:1
 returns-4 : tie.Need-returns-4
 returns-4 c = picked _ (c .before .match .keys4) (c .p-call4 .ensures)
 
--- src/setters.rt:63:1
 returns-5 : tie.Need-returns-5
 returns-5 c = unpicked _ _ (c .match .rest)
 

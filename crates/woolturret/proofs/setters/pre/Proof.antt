@@ -1,52 +1,39 @@
+-- `setters::pre` meets its contract: the arm of a number is the list's element there, and the last arm is past its end.
 use Rattle.woolturret.proofs.Lists.{picked, unpicked}
 use borrow.Author.Needs.{needs}
 use Rattle.woolturret.proofs.setters.pre.Statement.{statement}
 use Rattle.woolturret.proofs.setters.pre.Tie as tie
-use Rattle.woolturret.proofs.setters.pre.Reads as reads
-use Rattle.woolturret.proofs.setters.pre.Lts as lts
-use Rattle.woolturret.proofs.setters.pre_call.Reads as pre-call-reads
 
--- src/setters.rt:114:14
 pre-call-requires : tie.Need-pre-call-requires
 pre-call-requires c κs = search needs
 
--- src/setters.rt:115:14
 pre-call-requires-2 : tie.Need-pre-call-requires-2
 pre-call-requires-2 c κs = search needs
 
--- src/setters.rt:116:14
 pre-call-requires-3 : tie.Need-pre-call-requires-3
 pre-call-requires-3 c κs = search needs
 
--- src/setters.rt:117:14
 pre-call-requires-4 : tie.Need-pre-call-requires-4
 pre-call-requires-4 c κs = search needs
 
--- src/setters.rt:118:14
 pre-call-requires-5 : tie.Need-pre-call-requires-5
 pre-call-requires-5 c κs = search needs
 
--- src/setters.rt:110:1
 returns : tie.Need-returns
 returns c = picked _ (c .before .match .keys1) (c .pre-call .ensures)
 
--- src/setters.rt:110:1
 returns-2 : tie.Need-returns-2
 returns-2 c = picked _ (c .before .match .keys2) (c .pre-call2 .ensures)
 
--- src/setters.rt:110:1
 returns-3 : tie.Need-returns-3
 returns-3 c = picked _ (c .before .match .keys3) (c .pre-call3 .ensures)
 
--- src/setters.rt:110:1
 returns-4 : tie.Need-returns-4
 returns-4 c = picked _ (c .before .match .keys4) (c .pre-call4 .ensures)
 
--- src/setters.rt:110:1
 returns-5 : tie.Need-returns-5
 returns-5 c = picked _ (c .before .match .keys5) (c .pre-call5 .ensures)
 
--- src/setters.rt:110:1
 returns-6 : tie.Need-returns-6
 returns-6 c = unpicked _ _ (c .match .rest)
 

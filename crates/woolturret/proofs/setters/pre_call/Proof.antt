@@ -1,13 +1,10 @@
+-- `setters::pre_call` meets its contract: each branch by its test.
 use Rattle.woolturret.proofs.setters.pre_call.Statement.{statement}
 use Rattle.woolturret.proofs.setters.pre_call.Tie as tie
-use Rattle.woolturret.proofs.setters.pre_call.Reads as reads
-use Rattle.woolturret.proofs.setters.pre_call.Lts as lts
 
--- src/setters.rt:100:1
 returns : tie.Need-returns
 returns c = cc
 
--- src/setters.rt:100:1
 returns-2 : tie.Need-returns-2
 returns-2 c = cc
 
