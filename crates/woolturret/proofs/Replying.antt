@@ -1,6 +1,6 @@
 -- What an exported function answers follows from what the record reads as and from the call made.
 use Prim.Native.Nat.{ℕ}
-use mathlib.Core.Path.{_≡_, refl}
+use mathlib.Core.Path.{_≡_, refl, _∙_}
 use mathlib.Core.List.{List}
 use Rattle.kinds.specs.Limits.{checkOf}
 use Rattle.kinds.specs.Calls.{callOf}
@@ -12,8 +12,13 @@ use Rattle.record.specs.declared.Fault.{Fault}
 use Rattle.record.specs.declared.Fault.the-variants.{Length, Reserved, Code, Unasked}
 use Rattle.record.specs.declared.Reading.{Reading}
 use Rattle.record.specs.declared.Reading.the-variants.{Config, Malformed}
+use Rattle.pll.specs.Walk.{searchOf}
+use Rattle.pll.specs.Numbers.{numberOf as foundNumber}
+use Rattle.pll.specs.declared.Window.{Window}
+use Rattle.pll.specs.declared.Found.{Found}
+use Rattle.woolturret.specs.Answers.{numbersOf as foundNumbers}
 use Rattle.woolturret.specs.Numbers.{numbersOf}
-use Rattle.woolturret.specs.Replies.{Replied, checkReply, callReply, setReply}
+use Rattle.woolturret.specs.Replies.{Replied, checkReply, callReply, setReply, searchReply}
 use Rattle.woolturret.specs.declared.setters.Named.{Named}
 use Rattle.woolturret.specs.declared.setters.Named.the-variants.{Unknown, Call}
 
@@ -42,3 +47,7 @@ malformed {x} {f} n out e = rw e (record { answer = rw (malformed-14 f); holds =
 
 pub called : {x : Reading} {c : CFGR} {n m : Named} {r : ℕ} {l : List ℕ} (out : List ℕ) → x ≡ Config c → n ≡ m → Replied (callReply c n out) r l → Replied (setReply x m out) r l
 called out e p w = rw e (rw p at w)
+
+-- the search
+pub searched : (input : ℕ) {p q v w : Window} {f : Found} {r : ℕ} {l : List ℕ} → p ≡ v → q ≡ w → f ≡ searchOf input p q → r ≡ foundNumber f → l ≡ foundNumbers f → Replied (searchReply (searchOf input v w)) r l
+searched input a b e n m = record { answer = n ∙ rw (e, a, b); holds = m ∙ rw (e, a, b) }

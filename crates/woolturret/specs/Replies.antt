@@ -8,6 +8,9 @@ use Rattle.kinds.specs.declared.CFGR.{CFGR}
 use Rattle.record.specs.Reading.{numberOf}
 use Rattle.record.specs.declared.Reading.{Reading}
 use Rattle.record.specs.declared.Reading.the-variants.{Config, Malformed}
+use Rattle.pll.specs.Numbers.{numberOf as foundNumber}
+use Rattle.pll.specs.declared.Found.{Found}
+use Rattle.woolturret.specs.Answers.{numbersOf as foundNumbers}
 use Rattle.woolturret.specs.Numbers.{numbersOf}
 use Rattle.woolturret.specs.declared.setters.Named.{Named}
 use Rattle.woolturret.specs.declared.setters.Named.the-variants.{Unknown, Call}
@@ -34,3 +37,7 @@ callReply c (Call s) out = record { number = callOf c s .refusal; left = numbers
 abbrev pub setReply : Reading → Named → List ℕ → Reply
 setReply (Malformed fault) call out = record { number = numberOf fault; left = out }
 setReply (Config c) call out = callReply c call out
+
+-- the search leaves its five numbers, whatever it answers
+abbrev pub searchReply : Found → Reply
+searchReply found = record { number = foundNumber found; left = foundNumbers found }

@@ -1,13 +1,17 @@
 // Functions for C: record bytes and numbers in, numbers out. include/woolturret.h declares them.
+mod answers;
 mod numbers;
 mod setters;
 
 use kinds::CFGR;
+use kinds::Hertz;
 use record::Reading;
 use setters::Named;
 ghost use mathlib.Core.Path.{_≡_};
 ghost use Rattle.record.specs.Reading.{readOf};
-ghost use Rattle.woolturret.specs.Replies.{Replied, checkReply, setReply, callReply};
+ghost use Rattle.pll.specs.Walk.{searchOf};
+ghost use Rattle.woolturret.specs.Answers.{windowOf};
+ghost use Rattle.woolturret.specs.Replies.{Replied, checkReply, setReply, callReply, searchReply};
 ghost use Rattle.woolturret.specs.Named.{namedOf};
 
 // The check of 1 to 6 of the configuration that a record holds: 0 where nothing is refused, 14 for a malformed record.
@@ -52,4 +56,27 @@ pub extern "C" fn woolturret_set(
         Reading::Malformed(_) => 14,
         Reading::Config(cfgr) => reply(cfgr, setters::call_of(setter, a, b), out),
     }
+}
+
+// The search for the settings of the main PLL: its number, and passes, M, N, P, Q in out.
+#[no_mangle]
+pub extern "C" fn woolturret_search(
+    input: u32,
+    p: bool,
+    pmin: u32,
+    pmax: u32,
+    q: bool,
+    qmin: u32,
+    qmax: u32,
+    out: &mut [u32; 5],
+) -> u32
+    ensures { λ r. ⌜ Replied (searchReply (searchOf input (windowOf p pmin pmax) (windowOf q qmin qmax))) r (now (out .exit)) ⌝ }
+{
+    let found = pll::calculate_mnpq(
+        Hertz(input),
+        answers::window(p, pmin, pmax),
+        answers::window(q, qmin, qmax),
+    );
+    *out = answers::numbers_of(found);
+    answers::number_of(found)
 }

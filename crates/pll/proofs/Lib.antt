@@ -1,0 +1,10 @@
+pub mod Reciprocal
+pub mod Outputs
+pub mod Dividers
+pub mod Looks
+pub mod Room
+pub mod Ahead
+pub mod Answers
+pub mod Rules
+pub mod Skipping
+pub mod Theorems

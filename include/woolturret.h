@@ -1,0 +1,60 @@
+/* Woolturret: the clock planner of stm32f7xx-hal, proved. Link target/staticlib/libwoolturret.a (x86-64 Linux).
+ *
+ * No function traps, allocates, keeps state or asks anything of its numbers: what is out of range is refused by number.
+ *   0 accepted
+ *   1 HSE outside 4 to 26 MHz (oscillator) or 1 to 50 MHz (bypass); the search: input outside 1 to 50 MHz
+ *   2 HCLK request above 216 MHz
+ *   3 SYSCLK request outside 12.5 to 216 MHz
+ *   4 PCLK1 request outside 12.5 to 54 MHz
+ *   5 PCLK2 request outside 12.5 to 108 MHz
+ *   6 M outside 2..63, any N outside 50..432, any Q outside 2..15, PLLI2S R outside 2..7
+ *   7 the search has no answer
+ *  14 malformed request record; of woolturret_set also a setter or a code that there is not
+ * All ends are inclusive; of several numbers the least is given, 14 before any.
+ * A pointer must point to as many elements as its declaration says: that alone can't be checked here.
+ */
+#ifndef WOOLTURRET_H
+#define WOOLTURRET_H
+
+#include <stdbool.h>
+#include <stddef.h>
+#include <stdint.h>
+
+#ifdef __cplusplus
+extern "C" {
+#endif
+
+/* The settings of the main PLL for an input in hertz and windows for its P and Q outputs, ends included.
+ * A window is looked at only if its flag is true; one with low above high is never met.
+ * Answers 0, with out = passes, M, N, P, Q (P or Q 0 where its window is absent): least M, then greatest N, then the
+ * largest P and Q; or 1 or 7 with out = passes, 0, 0, 0, 0. Passes are the looks of document 01's walk, at most 10,008. */
+uint32_t woolturret_search(uint32_t input,
+                           bool p, uint32_t pmin, uint32_t pmax,
+                           bool q, uint32_t qmin, uint32_t qmax,
+                           uint32_t out[5]);
+
+/* The check of 1 to 6 of the configuration that a request record holds: 0, 1 to 6, or 14.
+ * bytes points to length bytes; any length but 64 is 14. */
+uint32_t woolturret_check(const uint8_t *bytes, size_t length);
+
+/* One setter of the Rust called on the configuration that a request record holds; a and b are its arguments:
+ *   0 hse(a hertz, b: 0 oscillator, 1 bypass)   1 hclk(a)   2 sysclk(a)   3 pclk1(a)   4 pclk2(a)
+ *   5 lse(a: 0 oscillator, 1 bypass)   6 lsi   7 use_pll   8 use_pll48clk(a: 0 PLLQ, 1 PLLSAI)
+ *   9 pllm(a)   10 plln(a)   11 pllp(a: 0 to 3 for 2, 4, 6, 8)   12 pllq(a)
+ *   13 use_pllsai   14 pllsain(a)   15 pllsaip(a, as pllp)   16 pllsaiq(a)
+ *   17 use_plli2s   18 plli2sn(a)   19 plli2sq(a)   20 plli2sr(a)
+ *   21 mco1(a: 0 HSI, 1 LSE, 2 HSE, 3 PLL)   22 mco1pre(a: 0 to 4 for 1 to 5)
+ *   23 mco2(a: 0 SYSCLK, 1 PLLI2S, 2 HSE, 3 PLL)   24 mco2pre(a, as mco1pre)   25 set_defaults
+ * An argument that a setter does not have is passed over. Answers 0 to 6, with the configuration handed back in out (as it
+ * came, if refused), or 14 with out as it was. The numbers of out:
+ *   HSE (0 absent, 1 oscillator, 2 bypass), its hertz, LSE (0, 1, 2 likewise), LSI;
+ *   for HCLK, SYSCLK, PCLK1, PCLK2 each: whether it is asked for, and its hertz;
+ *   use_pll, 48 MHz choice (0 absent, 1 PLLQ, 2 PLLSAI), M, N, P code, Q;
+ *   use_pllsai, N, P code, Q;   use_plli2s, N, R, Q;   MCO1, MCO1PRE, MCO2, MCO2PRE. */
+uint32_t woolturret_set(const uint8_t *bytes, size_t length, uint32_t setter, uint32_t a, uint32_t b, uint32_t out[30]);
+
+#ifdef __cplusplus
+}
+#endif
+
+#endif

@@ -1,0 +1,94 @@
+/* The library's functions on a machine that is not x86-64: each call goes through a pipe to serve.c, which runs with the real
+ * library under the toolchain's emulator. EMULATOR, LOADER, LIBRARIES and SERVER are given by the build. */
+#include <stdio.h>
+#include <stdlib.h>
+#include <string.h>
+#include <unistd.h>
+#include "calls.h"
+#include "woolturret.h"
+
+static int to_server = -1;
+static int from_server = -1;
+
+static void stop(const char *why)
+{
+    fprintf(stderr, "the library under the emulator: %s\n", why);
+    exit(1);
+}
+
+static void start(void)
+{
+    int calls[2], replies[2];
+    if (pipe(calls) != 0 || pipe(replies) != 0)
+        stop("no pipe");
+    pid_t child = fork();
+    if (child < 0)
+        stop("no process");
+    if (child == 0) {
+        dup2(calls[0], 0);
+        dup2(replies[1], 1);
+        close(calls[1]);
+        close(replies[0]);
+        execl(EMULATOR, EMULATOR, LOADER, "--library-path", LIBRARIES, SERVER, (char *)NULL);
+        stop("the emulator does not start");
+    }
+    close(calls[0]);
+    close(replies[1]);
+    to_server = calls[1];
+    from_server = replies[0];
+}
+
+static struct reply ask(const struct call *c)
+{
+    if (to_server < 0)
+        start();
+    if (write(to_server, c, sizeof *c) != (ssize_t)sizeof *c)
+        stop("it takes no call");
+    struct reply r;
+    for (size_t had = 0; had < sizeof r;) {
+        ssize_t got = read(from_server, (char *)&r + had, sizeof r - had);
+        if (got <= 0)
+            stop("it gives no reply");
+        had += (size_t)got;
+    }
+    return r;
+}
+
+static void put_bytes(struct call *c, const uint8_t *bytes, size_t length)
+{
+    if (length > MOST_BYTES)
+        stop("more bytes than a call holds");
+    c->length = (uint32_t)length;
+    if (length > 0)
+        memcpy(c->bytes, bytes, length);
+}
+
+/* out goes there and comes back, so that a number which the library leaves alone is left alone here. */
+static uint32_t ask_with(struct call *c, uint32_t *out, size_t count)
+{
+    memcpy(c->out, out, count * sizeof *out);
+    struct reply r = ask(c);
+    memcpy(out, r.out, count * sizeof *out);
+    return r.answer;
+}
+
+uint32_t woolturret_search(uint32_t input, bool p, uint32_t pmin, uint32_t pmax, bool q, uint32_t qmin, uint32_t qmax,
+                           uint32_t out[5])
+{
+    struct call c = {.function = SEARCH, .numbers = {input, p, pmin, pmax, q, qmin, qmax}};
+    return ask_with(&c, out, 5);
+}
+
+uint32_t woolturret_check(const uint8_t *bytes, size_t length)
+{
+    struct call c = {.function = CHECK};
+    put_bytes(&c, bytes, length);
+    return ask(&c).answer;
+}
+
+uint32_t woolturret_set(const uint8_t *bytes, size_t length, uint32_t setter, uint32_t a, uint32_t b, uint32_t out[30])
+{
+    struct call c = {.function = SET, .numbers = {setter, a, b}};
+    put_bytes(&c, bytes, length);
+    return ask_with(&c, out, 30);
+}
