@@ -33,6 +33,11 @@ uint32_t woolturret_search(uint32_t input,
                            bool q, uint32_t qmin, uint32_t qmax,
                            uint32_t out[5]);
 
+/* The output with divider d (2..15) of an input in hertz, M (2..63) and N (50..432), by the Rust's fixed point: with
+ * b = floor(input / 16), r(x) = floor((floor(2^31 / x) + 1) / 2) and V = floor(b N r(M) / 2^30), it is 16 floor(V r(d) / 2^30).
+ * Answers 0 with the hertz in out, or 1 (input outside 1 to 50 MHz) or 6 (M, N or d outside its limits) with out as it was. */
+uint32_t woolturret_output(uint32_t input, uint32_t m, uint32_t n, uint32_t d, uint64_t *out);
+
 /* The check of 1 to 6 of the configuration that a request record holds: 0, 1 to 6, or 14.
  * bytes points to length bytes; any length but 64 is 14. */
 uint32_t woolturret_check(const uint8_t *bytes, size_t length);

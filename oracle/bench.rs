@@ -19,8 +19,9 @@ const CASES: usize = 256;
 /// A kind of search: its name, how a case is made, and which refusal and passes it comes to.
 type Kind = (&'static str, fn(&mut Random) -> Case, fn(u32, u32) -> bool);
 
-const KINDS: [Kind; 10] = [
+const KINDS: [Kind; 11] = [
     ("first pair is good", near_2_mhz, |no, passes| no == 0 && passes == 1),
+    ("found in 2 passes", near_2_mhz, |no, passes| no == 0 && passes == 2),
     ("found in 2 to 20 passes", near_2_mhz, |no, passes| no == 0 && passes > 1 && passes <= 20),
     ("found after 200 passes", p_only, |no, passes| no == 0 && passes > 200),
     ("no answer with P", p_only, |no, passes| no == 7 && passes > 1),

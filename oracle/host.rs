@@ -6,6 +6,7 @@ mod boundary_cases;
 mod boundary_records;
 mod cases;
 mod compare_checks;
+mod compare_outputs;
 mod compare_searches;
 mod compare_setters;
 mod configuration;
@@ -40,7 +41,7 @@ fn main() -> ExitCode {
     }
 }
 
-/// The boundary lists whole and `count` random cases in each of the three comparisons.
+/// The boundary lists whole and `count` random cases in each of the four comparisons.
 fn compare(count: u64, seed: u64) -> ExitCode {
     panics::install();
     let assertions = Assertions::of_the_rust();
@@ -50,14 +51,15 @@ fn compare(count: u64, seed: u64) -> ExitCode {
     let calls = compare_setters::run(count, random, &assertions, &mut differences);
     let checks = compare_checks::run(count, random, &assertions, &mut differences);
     let searches = compare_searches::run(count, random, &assertions, &mut differences);
+    let outputs = compare_outputs::run(count, random, &assertions, &mut differences);
     let outcome = match differences.0 {
         0 => "all equal".to_string(),
         1 => "1 difference".to_string(),
         several => format!("{several} differences"),
     };
     println!(
-        "compared with the Rust: {calls} setter calls, {checks} checks, {searches} searches: \
-         {outcome} (seed {seed})"
+        "compared with the Rust: {calls} setter calls, {checks} checks, {searches} searches, \
+         {outputs} outputs: {outcome} (seed {seed})"
     );
     ExitCode::from(u8::from(differences.0 > 0))
 }

@@ -6,6 +6,8 @@ use crate::configuration::Numbers;
 /// What an answer's numbers hold before a call, to see which are written.
 pub const UNTOUCHED: u32 = 0xA5A5_5A5A;
 
+pub const UNTOUCHED_HERTZ: u64 = 0xA5A5_5A5A_A5A5_5A5A;
+
 pub type Window = Option<(u32, u32)>;
 
 mod c {
@@ -13,13 +15,14 @@ mod c {
         pub fn woolturret_search(
             input: u32,
             p: bool,
-            p_low: u32,
-            p_high: u32,
+            pmin: u32,
+            pmax: u32,
             q: bool,
-            q_low: u32,
-            q_high: u32,
+            qmin: u32,
+            qmax: u32,
             out: *mut u32,
         ) -> u32;
+        pub fn woolturret_output(input: u32, m: u32, n: u32, d: u32, out: *mut u64) -> u32;
         pub fn woolturret_check(record: *const u8, length: usize) -> u32;
         pub fn woolturret_set(
             record: *const u8,
@@ -36,22 +39,30 @@ mod c {
 #[inline]
 pub fn search(input: u32, p: Window, q: Window) -> (u32, [u32; 5]) {
     // An absent window's ends are passed over; these would change the answer if not.
-    let (p_low, p_high) = p.unwrap_or((0, u32::MAX));
-    let (q_low, q_high) = q.unwrap_or((0, u32::MAX));
+    let (pmin, pmax) = p.unwrap_or((0, u32::MAX));
+    let (qmin, qmax) = q.unwrap_or((0, u32::MAX));
     let mut out = [UNTOUCHED; 5];
     // SAFETY: `out` is as long as the function writes.
     let answer = unsafe {
         c::woolturret_search(
             input,
             p.is_some(),
-            p_low,
-            p_high,
+            pmin,
+            pmax,
             q.is_some(),
-            q_low,
-            q_high,
+            qmin,
+            qmax,
             out.as_mut_ptr(),
         )
     };
+    (answer, out)
+}
+
+/// The refusal, and the output in hertz.
+pub fn output(input: u32, m: u32, n: u32, d: u32) -> (u32, u64) {
+    let mut out = UNTOUCHED_HERTZ;
+    // SAFETY: `out` is the one number that the function writes.
+    let answer = unsafe { c::woolturret_output(input, m, n, d, &mut out) };
     (answer, out)
 }
 

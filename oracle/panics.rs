@@ -26,7 +26,7 @@ pub fn caught<T>(assertions: &Assertions, call: impl FnOnce() -> T) -> Result<T,
     result.map_err(|_| assertions.number(line.unwrap_or(0)))
 }
 
-/// The lines of rcc.rs with a setter's assertion, and their refusal numbers.
+/// The lines of rcc.rs with a setter's assertion or that on SYSCLK, and their refusal numbers.
 pub struct Assertions(Vec<(u32, u32)>);
 
 impl Assertions {
@@ -71,6 +71,7 @@ fn refusal_of(within: &str, function: &str) -> Option<u32> {
         ("CFGR", "pllm" | "plln" | "pllq") => 6,
         ("CFGR", "pllsain" | "pllsaiq") => 6,
         ("CFGR", "plli2sn" | "plli2sq" | "plli2sr") => 6,
+        ("CFGR", "calculate_clocks") => 8,
         _ => return None,
     })
 }

@@ -79,6 +79,14 @@ uint32_t woolturret_search(uint32_t input, bool p, uint32_t pmin, uint32_t pmax,
     return ask_with(&c, out, 5);
 }
 
+uint32_t woolturret_output(uint32_t input, uint32_t m, uint32_t n, uint32_t d, uint64_t *out)
+{
+    struct call c = {.function = OUTPUT, .numbers = {input, m, n, d}, .hertz = *out};
+    struct reply r = ask(&c);
+    *out = r.hertz;
+    return r.answer;
+}
+
 uint32_t woolturret_check(const uint8_t *bytes, size_t length)
 {
     struct call c = {.function = CHECK};

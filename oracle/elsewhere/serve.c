@@ -25,6 +25,8 @@ static uint32_t answer(struct call *c)
         return woolturret_search(n[0], n[1] != 0, n[2], n[3], n[4] != 0, n[5], n[6], c->out);
     case CHECK:
         return woolturret_check(c->bytes, c->length);
+    case OUTPUT:
+        return woolturret_output(n[0], n[1], n[2], n[3], &c->hertz);
     default:
         return woolturret_set(c->bytes, c->length, n[0], n[1], n[2], c->out);
     }
@@ -36,6 +38,7 @@ int main(void)
     while (take(&c, sizeof c)) {
         struct reply r;
         r.answer = answer(&c);
+        r.hertz = c.hertz;
         for (int i = 0; i < MOST_OUT; i++)
             r.out[i] = c.out[i];
         if (write(1, &r, sizeof r) != (long)sizeof r)

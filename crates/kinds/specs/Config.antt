@@ -1,9 +1,8 @@
--- Document 01, "Taken and left": the Rust's defaults, the PLLs' input, and what a P code divides by.
+-- The Rust's defaults (document 01, "Request record") and the input of the PLLs ("Fixed point").
 use Prim.Native.Nat.{ℕ}
-use mathlib.Core.Bool.{Bool, true, false}
+use mathlib.Core.Bool.{false}
 use Rattle.kinds.specs.declared.CFGR.{CFGR}
-use Rattle.kinds.specs.declared.PLLP.{PLLP}
-use Rattle.kinds.specs.declared.PLLP.the-variants.{Div2, Div4, Div6, Div8}
+use Rattle.kinds.specs.declared.PLLP.the-variants.{Div2}
 use Rattle.kinds.specs.declared.HSEClock.{HSEClock}
 use Rattle.kinds.specs.declared.HSEClock.the-variants.{Absent as NoHse, Oscillator, Bypass}
 use Rattle.kinds.specs.declared.LSEClock.the-variants.{Absent as NoLse}
@@ -29,9 +28,3 @@ unfoldable pub inputOf : HSEClock → ℕ
 inputOf NoHse = 16000000
 inputOf (Oscillator f) = f .0
 inputOf (Bypass f) = f .0
-
-unfoldable pub pDividerOf : PLLP → ℕ
-pDividerOf Div2 = 2
-pDividerOf Div4 = 4
-pDividerOf Div6 = 6
-pDividerOf Div8 = 8

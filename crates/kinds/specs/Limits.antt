@@ -1,6 +1,6 @@
 -- Document 01, "Numbers for every refusal", 1 to 6: which number each limit gives, and the check of a configuration.
 use Prim.Native.Nat.{ℕ}
-use mathlib.Core.Bool.{Bool, cond, _&&_}
+use mathlib.Core.Bool.{cond, _&&_}
 use lib.Dec.{leb, eqb}
 use Rattle.kinds.specs.declared.CFGR.{CFGR}
 use Rattle.kinds.specs.declared.Requests.{Requests}
@@ -9,7 +9,6 @@ use Rattle.kinds.specs.declared.Sai.{Sai}
 use Rattle.kinds.specs.declared.I2s.{I2s}
 use Rattle.kinds.specs.declared.Divider.{Divider}
 use Rattle.kinds.specs.declared.Factor.{Factor}
-use Rattle.kinds.specs.declared.Hertz.{Hertz}
 use Rattle.kinds.specs.declared.HSEClock.{HSEClock}
 use Rattle.kinds.specs.declared.HSEClock.the-variants.{Absent as NoHse, Oscillator, Bypass}
 use Rattle.kinds.specs.declared.Request.{Request}

@@ -1,6 +1,6 @@
 -- The Rust's setters: what each hands back, by name and in the Rust's order.
 use Prim.Native.Nat.{ℕ}
-use mathlib.Core.Bool.{Bool, true, false, cond}
+use mathlib.Core.Bool.{true, cond}
 use lib.Dec.{eqb}
 use Rattle.kinds.specs.declared.CFGR.{CFGR}
 use Rattle.kinds.specs.declared.Setting.{Setting}

@@ -6,7 +6,7 @@ mod limits;
 mod setters;
 
 ghost use mathlib.Core.Path.{_≡_};
-ghost use Rattle.kinds.specs.Config.{defaults, inputOf, pDividerOf};
+ghost use Rattle.kinds.specs.Config.{defaults, inputOf};
 
 // A frequency in hertz, a divider and a multiplication factor: none is passed for another.
 pub struct Hertz(pub u32);
@@ -144,6 +144,17 @@ pub struct Setting {
     pub cfgr: CFGR,
 }
 
+fn no_requests() -> Requests
+    ensures { λ r. ⌜ r ≡ defaults .requests ⌝ }
+{
+    Requests {
+        hclk: Request::Absent,
+        sysclk: Request::Absent,
+        pclk1: Request::Absent,
+        pclk2: Request::Absent,
+    }
+}
+
 impl CFGR {
     // The Rust's defaults.
     pub fn constrain() -> CFGR
@@ -155,12 +166,7 @@ impl CFGR {
                 lse: LSEClock::Absent,
                 lsi: false,
             },
-            requests: Requests {
-                hclk: Request::Absent,
-                sysclk: Request::Absent,
-                pclk1: Request::Absent,
-                pclk2: Request::Absent,
-            },
+            requests: no_requests(),
             pll: Pll {
                 use_pll: false,
                 pll48clk: Choice48::Absent,
@@ -199,17 +205,5 @@ pub fn input_of(hse: HSEClock) -> Hertz
         HSEClock::Absent => Hertz(16000000),
         HSEClock::Oscillator(f) => f,
         HSEClock::Bypass(f) => f,
-    }
-}
-
-// The divider that a P code stands for.
-pub fn p_divider(p: PLLP) -> Divider
-    ensures { λ r. ⌜ r .0 ≡ pDividerOf p ⌝ }
-{
-    match p {
-        PLLP::Div2 => Divider(2),
-        PLLP::Div4 => Divider(4),
-        PLLP::Div6 => Divider(6),
-        PLLP::Div8 => Divider(8),
     }
 }

@@ -1,9 +1,6 @@
 // Document 01, "Numbers for every refusal": the limits behind 1 to 6, and the check of a whole configuration.
 use super::CFGR;
-use super::Divider;
-use super::Factor;
 use super::HSEClock;
-use super::Hertz;
 use super::I2s;
 use super::Pll;
 use super::Request;

@@ -10,13 +10,15 @@ use native.Mathlib.Omega.{arith}
 use native.Mathlib.Nat.{le-div-iff-mul-le, div-lt-iff-lt-mul, mul-le-mul-left, mul-div-le, mul-comm, le-trans}
 use Rattle.pll.specs.Fixed.{inside}
 use Rattle.pll.specs.Walk.{first, seek, qDividers}
-use Rattle.pll.specs.Skip.{highest, fit, end}
+use Rattle.pll.specs.Skip.{dividersOf, highest, fit, end}
 use Rattle.pll.specs.Good.{Among, Hits, Fitting, Chosen}
 use Rattle.kinds.specs.declared.Divider.{Divider}
 use Rattle.pll.specs.declared.Window.{Window}
 use Rattle.pll.specs.declared.Window.the-variants.{Absent, Within}
 use Rattle.pll.specs.declared.Sought.{Sought}
 use Rattle.pll.specs.declared.Sought.the-variants.{Unasked, By}
+use Rattle.pll.specs.declared.Side.{Side}
+use Rattle.pll.specs.declared.Side.the-variants.{P, Q}
 use Rattle.pll.specs.declared.Seek.{Seek}
 use Rattle.pll.specs.declared.Seek.the-variants.{Missed, Had}
 use Rattle.pll.proofs.Outputs.{inside-told, inside-test}
@@ -273,3 +275,8 @@ module _ (lo v : ℕ) where
 
   pub highest-q-small : v < lo * 15 → v / lo < 15
   highest-q-small a = let pos : 0 < lo = omega arith in div-lt-iff-lt-mul pos .1 (rw (mul-comm 15 lo) a)
+
+-- ---- both lists fall
+pub dividers-fall : (s : Side) → T (falling (dividersOf s))
+dividers-fall P = tt
+dividers-fall Q = tt

@@ -1,3 +1,4 @@
+-- The lemmas by idea, each file above those that use it, and last the theorems that are promised.
 pub mod Reciprocal
 pub mod Outputs
 pub mod Dividers

@@ -73,13 +73,21 @@ module _ (f : ℕ) (p q : Window) (i : InputOk f) (s : SomeWindow p q) where
   pub search-follows-the-walk : Walks f p q 2 432 1 (searchOf f p q)
   search-follows-the-walk = rw (search-walks f p q i s) (whole-walks f p q i)
 
-  -- the count is the number of looks of that walk
-  pub count-is-the-looks : passesOf (searchOf f p q) ≡ looksOf search-follows-the-walk
-  count-is-the-looks = let h = walks-count search-follows-the-walk in omega arith
+  -- those rules lead to no other answer
+  pub walk-leads-to-the-search : (r : Found) → Walks f p q 2 432 1 r → r ≡ searchOf f p q
+  walk-leads-to-the-search r w = walks-one f p q 2 432 1 r (searchOf f p q) w search-follows-the-walk
 
-  -- it is at least 1 and at most 10,008
+  -- the count is the number of looks of the walk
+  pub count-is-the-looks : {r : Found} (w : Walks f p q 2 432 1 r) → passesOf (searchOf f p q) ≡ looksOf w
+  count-is-the-looks {r} w = let h = walks-count w in rw (← walk-leads-to-the-search r w) (omega arith)
+
+  -- it is at least 1
   pub count-at-least-1 : 1 ≤ passesOf (searchOf f p q)
-  count-at-least-1 = let h = count-is-the-looks in let g = looks-some search-follows-the-walk in omega arith
+  count-at-least-1 =
+      let w = search-follows-the-walk in
+      let h = count-is-the-looks w in
+      let g = looks-some w in
+      omega arith
 
 -- the count of any answer is at most 10,008
 pub count-at-most-10008 : (f : ℕ) (p q : Window) → passesOf (searchOf f p q) ≤ 10008
@@ -90,7 +98,7 @@ count-at-most-10008 f p q = cases (searchOf f p q) (answer-is-right f p q)
     cases BadInput w = omega arith
     cases (Nothing k) w = w .2
 
--- an input of a search without a window: 1 or 7, with no pass
+-- a search without a window makes no pass
 none-passes : (f : ℕ) → passesOf (searchOf f Absent Absent) ≡ 0
 unfolding searchOf entered
 none-passes f = cases (inside 1000000 50000000 f)
@@ -122,7 +130,7 @@ no-pass-exactly f p q = (λ e. forth p q e, λ h. ⊎-elim (λ (a : InputOk f �
     windowless (Within x y) q a = absurd (a tt)
 
 -- ---- the answer is one
--- the rules of the walk lead to one answer
+-- from any pass at any pair the rules of the walk lead to one answer
 pub walk-leads-to-one-answer : (f : ℕ) (p q : Window) (m n k : ℕ) (r s : Found) → Walks f p q m n k r → Walks f p q m n k s → r ≡ s
 walk-leads-to-one-answer = walks-one
 
@@ -159,7 +167,7 @@ module _ (f m n d : ℕ) where
       cases (Refused k) (setting-bad j a) = absurd (a s)
       cases (At x) (given j t) = refl
 
--- ---- document 01's examples of the search
+-- ---- document 01's examples of the search, and the one added to them
 pub examples-hold : map (λ e. searchOf (e .input) (e .p) (e .q)) examples ≡ map (λ e. e .answer) examples
 unfolding recipOf vcoOf first seek join judge look walk entered searchOf
 examples-hold = refl

@@ -1,4 +1,4 @@
--- Document 01, "Examples on each side": those of the search, and its longest walk.
+-- Document 01, "Examples on each side": its four examples of the search, and one of ours, a walk of 10,007 passes.
 use Prim.Native.Nat.{ℕ, _+_, _-_}
 use mathlib.Core.List.{List, [], _∷_}
 use Rattle.pll.specs.declared.Window.{Window}
@@ -21,6 +21,7 @@ pub record Asked : Type 0 where
   pub q : Window
   pub answer : Found
 
+-- planning seeks from 16 × b, so the bypass HSE of 1,999,999 is 1,999,984 here
 abbrev pub examples : List Asked
 examples =
     record { input = 16000000; p = around 216000000; q = usb; answer = Pair (record { 0 = 8 }) (record { 0 = 216 }) (By (record { 0 = 2 })) (By (record { 0 = 9 })) 223 }

@@ -1,3 +1,4 @@
+-- The definitions, in document 01's order; the last says how the code goes about it.
 pub mod Fixed
 pub mod Walk
 pub mod Good

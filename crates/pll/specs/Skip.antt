@@ -7,6 +7,8 @@ use Rattle.pll.specs.Fixed.{recipOf}
 use Rattle.pll.specs.Walk.{pDividers, qDividers}
 use Rattle.pll.specs.declared.Window.{Window}
 use Rattle.pll.specs.declared.Window.the-variants.{Absent, Within}
+use Rattle.pll.specs.declared.Side.{Side}
+use Rattle.pll.specs.declared.Side.the-variants.{P, Q}
 use Rattle.pll.specs.declared.Sought.the-variants.{By}
 use Rattle.pll.specs.declared.Seek.{Seek}
 use Rattle.pll.specs.declared.Seek.the-variants.{Missed, Had}
@@ -17,6 +19,11 @@ unitOf f m = f / 16 * recipOf m
 
 unfoldable pub vcoBy : ℕ → ℕ → ℕ
 vcoBy u n = 16 * (n * u / 1073741824)
+
+-- the dividers of an output
+abbrev pub dividersOf : Side → List ℕ
+dividersOf P = pDividers
+dividersOf Q = qDividers
 
 -- the first divider of a list that does not put v below lo, or 0
 unfoldable pub highest : List ℕ → ℕ → ℕ → ℕ
@@ -32,7 +39,7 @@ unfoldable pub end : List ℕ → Window → ℕ → ℕ
 end ds Absent v = 432000001
 end ds (Within lo hi) v = (hi .0 + 1) * highest ds (lo .0) v
 
--- the same of both windows and VCOs up to 432 MHz; at 50 MHz and below the walk leaves the M
+-- the same of both windows and VCOs up to 432 MHz; below 50 MHz the walk leaves the M
 unfoldable pub target : Window → Window → ℕ → ℕ
 target p q v =
     max 50000000 (min 432000001 (min (end pDividers p (min v 432000000)) (end qDividers q (min v 432000000))))

@@ -28,6 +28,12 @@ pub enum Sought {
     By(Divider),
 }
 
+// Which of the two outputs a window is for.
+enum Side {
+    P,
+    Q,
+}
+
 // What seeking a divider for a window comes to.
 enum Seek {
     Missed,

@@ -1,9 +1,9 @@
 // One pass of the walk: a look at a pair, whose VCO the caller has.
 use crate::Look;
 use crate::Seek;
+use crate::Side;
 use crate::Window;
-use crate::windows::seek_p;
-use crate::windows::seek_q;
+use crate::windows::seek;
 use kinds::Divider;
 use kinds::Factor;
 use kinds::Hertz;
@@ -48,5 +48,5 @@ pub fn look_at(f: Hertz, p: Window, q: Window, m: Divider, n: Factor, v: u64) ->
     if v > 432000000 {
         return Look::NextN;
     }
-    join(seek_p(p, v), seek_q(q, v))
+    join(seek(Side::P, p, v), seek(Side::Q, q, v))
 }

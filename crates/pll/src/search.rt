@@ -20,25 +20,25 @@ pub fn search(f: Hertz, p: Window, q: Window) -> Found
 {
     let mut m: u32 = 2;
     let mut n: u32 = 432;
-    let mut k: u32 = 1;
+    let mut passes: u32 = 1;
     let mut u = unit(f, Divider(2));
     loop {
         let v = vco(u, Factor(n));
         let l = look_at(f, p, q, Divider(m), Factor(n), v);
         match l {
             Look::Refuse => {
-                return Found::Nothing { passes: k };
+                return Found::Nothing { passes };
             }
             Look::NextM => {
                 m += 1;
                 n = 432;
-                k += 1;
+                passes += 1;
                 u = unit(f, Divider(m));
             }
             Look::NextN => {
                 let t = target(p, q, v);
                 let j = jump(u, Factor(n), t);
-                k += n - j.0;
+                passes += n - j.0;
                 n = j.0;
             }
             Look::Good(a, b) => {
@@ -47,7 +47,7 @@ pub fn search(f: Hertz, p: Window, q: Window) -> Found
                     n: Factor(n),
                     p: a,
                     q: b,
-                    passes: k,
+                    passes,
                 };
             }
         }

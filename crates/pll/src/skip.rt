@@ -1,7 +1,7 @@
 // How far the walk may be cut short after a look that failed: to the next N that could be good.
+use crate::Side;
 use crate::Window;
-use crate::windows::end_p;
-use crate::windows::end_q;
+use crate::windows::end;
 use kinds::Factor;
 ghost use mathlib.Core.Path.{_≡_};
 ghost use Prim.Native.Nat.{_*_, _<_, _≤_, min, max};
@@ -24,7 +24,10 @@ pub fn target(p: Window, q: Window, v: u64) -> u64
     ensures { λ r. ⌜ r ≡ spec.target p q v ⌝ }
 {
     let w = least(v, 432000000);
-    most(50000000, least(432000001, least(end_p(p, w), end_q(q, w))))
+    most(
+        50000000,
+        least(432000001, least(end(Side::P, p, w), end(Side::Q, q, w))),
+    )
 }
 
 // The greatest N below n whose VCO is below t, or 49, where the walk leaves the M.

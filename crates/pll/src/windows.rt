@@ -1,17 +1,20 @@
 // Which divider puts a VCO into a window. `lo ≤ v / d` is tested as `lo × d ≤ v` and `v / d ≤ hi` as `v < (hi + 1) × d`.
 use crate::Seek;
+use crate::Side;
 use crate::Sought;
 use crate::Window;
 use kinds::Divider;
 use kinds::Hertz;
 ghost use mathlib.Core.Path.{_≡_};
 ghost use Prim.Native.Nat.{_+_, _*_};
-ghost use Rattle.pll.specs.Walk.{pDividers, qDividers, seek};
-ghost use Rattle.pll.specs.Skip.{highest, fit, end};
+ghost use Rattle.pll.specs.Walk.{pDividers, qDividers};
+ghost use Rattle.pll.specs.Walk.{seek as seekOf};
+ghost use Rattle.pll.specs.Skip.{dividersOf};
+ghost use Rattle.pll.specs.Skip as spec;
 
 // The largest P whose output is not below the window, or 0. A smaller one fits only where this one does.
 fn highest_p(lo: Hertz, v: u64) -> u32
-    ensures { λ r. ⌜ r ≡ highest pDividers (lo .0) v ⌝ }
+    ensures { λ r. ⌜ r ≡ spec.highest pDividers (lo .0) v ⌝ }
 {
     let l = lo.0 as u64;
     if l * 8 <= v {
@@ -31,7 +34,7 @@ fn highest_p(lo: Hertz, v: u64) -> u32
 
 // The largest Q whose output is not below the window, or 0.
 fn highest_q(lo: Hertz, v: u64) -> u32
-    ensures { λ r. ⌜ r ≡ highest qDividers (lo .0) v ⌝ }
+    ensures { λ r. ⌜ r ≡ spec.highest qDividers (lo .0) v ⌝ }
 {
     let l = lo.0 as u64;
     if l * 15 <= v {
@@ -50,7 +53,7 @@ fn past(hi: Hertz, d: u32) -> u64
 
 // The divider, unless it puts the VCO past the window.
 fn fitting(hi: Hertz, d: u32, v: u64) -> Seek
-    ensures { λ r. ⌜ r ≡ fit (hi .0) d v ⌝ }
+    ensures { λ r. ⌜ r ≡ spec.fit (hi .0) d v ⌝ }
 {
     if v < past(hi, d) {
         Seek::Had(Sought::By(Divider(d)))
@@ -59,39 +62,31 @@ fn fitting(hi: Hertz, d: u32, v: u64) -> Seek
     }
 }
 
-pub fn seek_p(w: Window, v: u64) -> Seek
-    ensures { λ r. ⌜ r ≡ seek pDividers w v ⌝ }
+fn highest(s: Side, lo: Hertz, v: u64) -> u32
+    ensures { λ r. ⌜ r ≡ spec.highest (dividersOf s) (lo .0) v ⌝ }
 {
-    match w {
-        Window::Absent => Seek::Had(Sought::Unasked),
-        Window::Within(lo, hi) => fitting(hi, highest_p(lo, v), v),
+    match s {
+        Side::P => highest_p(lo, v),
+        Side::Q => highest_q(lo, v),
     }
 }
 
-pub fn seek_q(w: Window, v: u64) -> Seek
-    ensures { λ r. ⌜ r ≡ seek qDividers w v ⌝ }
+// The divider that the window gets, if one fits.
+pub fn seek(s: Side, w: Window, v: u64) -> Seek
+    ensures { λ r. ⌜ r ≡ seekOf (dividersOf s) w v ⌝ }
 {
     match w {
         Window::Absent => Seek::Had(Sought::Unasked),
-        Window::Within(lo, hi) => fitting(hi, highest_q(lo, v), v),
+        Window::Within(lo, hi) => fitting(hi, highest(s, lo, v), v),
     }
 }
 
 // Where the VCOs up to v that fit the window end.
-pub fn end_p(w: Window, v: u64) -> u64
-    ensures { λ r. ⌜ r ≡ end pDividers w v ⌝ }
+pub fn end(s: Side, w: Window, v: u64) -> u64
+    ensures { λ r. ⌜ r ≡ spec.end (dividersOf s) w v ⌝ }
 {
     match w {
         Window::Absent => 432000001,
-        Window::Within(lo, hi) => past(hi, highest_p(lo, v)),
-    }
-}
-
-pub fn end_q(w: Window, v: u64) -> u64
-    ensures { λ r. ⌜ r ≡ end qDividers w v ⌝ }
-{
-    match w {
-        Window::Absent => 432000001,
-        Window::Within(lo, hi) => past(hi, highest_q(lo, v)),
+        Window::Within(lo, hi) => past(hi, highest(s, lo, v)),
     }
 }

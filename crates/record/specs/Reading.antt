@@ -28,7 +28,7 @@ judgedOf (At fault) b = Malformed fault
 unfoldable pub readOf : List ℕ → Reading
 readOf b = cond (eqb (length b) 64) (judgedOf (breachOf b) b) (Malformed Length)
 
--- the record of the Rust's defaults: M 2, P code 0, Q 2, PLLSAI P code 0, Q 2, PLLI2S R 2, Q 2, no MCO;
+-- the record of the Rust's defaults: M 2, P code 0, Q 2, PLLSAI P code 0, Q 2, PLLI2S R 2, Q 2, MCO codes 0;
 -- N 50, PLLSAI N 192, PLLI2S N 192; rest zero
 abbrev pub defaultRecord : List ℕ
 defaultRecord =

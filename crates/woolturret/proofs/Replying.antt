@@ -1,6 +1,6 @@
 -- What an exported function answers follows from what the record reads as and from the call made.
 use Prim.Native.Nat.{ℕ}
-use mathlib.Core.Path.{_≡_, refl, _∙_}
+use mathlib.Core.Path.{_≡_, refl, sym, _∙_}
 use mathlib.Core.List.{List}
 use Rattle.kinds.specs.Limits.{checkOf}
 use Rattle.kinds.specs.Calls.{callOf}
@@ -16,9 +16,11 @@ use Rattle.pll.specs.Walk.{searchOf}
 use Rattle.pll.specs.Numbers.{numberOf as foundNumber}
 use Rattle.pll.specs.declared.Window.{Window}
 use Rattle.pll.specs.declared.Found.{Found}
+use Rattle.pll.specs.declared.Outcome.{Outcome}
+use Rattle.pll.specs.declared.Outcome.the-variants.{Refused as OutputRefused, At as OutputAt}
 use Rattle.woolturret.specs.Answers.{numbersOf as foundNumbers}
 use Rattle.woolturret.specs.Numbers.{numbersOf}
-use Rattle.woolturret.specs.Replies.{Replied, checkReply, callReply, setReply, searchReply}
+use Rattle.woolturret.specs.Replies.{Replied, checkReply, callReply, setReply, searchReply, Told}
 use Rattle.woolturret.specs.declared.setters.Named.{Named}
 use Rattle.woolturret.specs.declared.setters.Named.the-variants.{Unknown, Call}
 
@@ -51,3 +53,11 @@ called out e p w = rw e (rw p at w)
 -- the search
 pub searched : (input : ℕ) {p q v w : Window} {f : Found} {r : ℕ} {l : List ℕ} → p ≡ v → q ≡ w → f ≡ searchOf input p q → r ≡ foundNumber f → l ≡ foundNumbers f → Replied (searchReply (searchOf input v w)) r l
 searched input a b e n m = record { answer = n ∙ rw (e, a, b); holds = m ∙ rw (e, a, b) }
+
+-- an output
+module _ {o x : Outcome} (before : ℕ) (p : x ≡ o) where
+  pub told-refused : {k : ℕ} → x ≡ OutputRefused k → Told o before k before
+  told-refused e = rw (sym p ∙ e) (record { answer = refl; holds = refl })
+
+  pub told-at : {h : ℕ} → x ≡ OutputAt h → Told o before 0 h
+  told-at e = rw (sym p ∙ e) (record { answer = refl; holds = refl })

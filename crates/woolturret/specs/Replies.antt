@@ -9,6 +9,9 @@ use Rattle.record.specs.Reading.{numberOf}
 use Rattle.record.specs.declared.Reading.{Reading}
 use Rattle.record.specs.declared.Reading.the-variants.{Config, Malformed}
 use Rattle.pll.specs.Numbers.{numberOf as foundNumber}
+use Rattle.pll.specs.Numbers.{outcomeNumberOf}
+use Rattle.pll.specs.declared.Outcome.{Outcome}
+use Rattle.pll.specs.declared.Outcome.the-variants.{Refused as OutputRefused, At as OutputAt}
 use Rattle.pll.specs.declared.Found.{Found}
 use Rattle.woolturret.specs.Answers.{numbersOf as foundNumbers}
 use Rattle.woolturret.specs.Numbers.{numbersOf}
@@ -41,3 +44,12 @@ setReply (Config c) call out = callReply c call out
 -- the search leaves its five numbers, whatever it answers
 abbrev pub searchReply : Found → Reply
 searchReply found = record { number = foundNumber found; left = foundNumbers found }
+
+-- an output: its hertz where it is given; refused, the lent number as it came
+abbrev pub hertzOf : Outcome → ℕ → ℕ
+hertzOf (OutputRefused number) before = before
+hertzOf (OutputAt hertz) before = hertz
+
+pub record Told (o : Outcome) (before r after : ℕ) : Type 0 where
+  pub answer : r ≡ outcomeNumberOf o
+  pub holds : after ≡ hertzOf o before

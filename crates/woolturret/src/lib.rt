@@ -4,14 +4,18 @@ mod numbers;
 mod setters;
 
 use kinds::CFGR;
+use kinds::Divider;
+use kinds::Factor;
 use kinds::Hertz;
+use pll::Outcome;
 use record::Reading;
 use setters::Named;
 ghost use mathlib.Core.Path.{_≡_};
 ghost use Rattle.record.specs.Reading.{readOf};
+ghost use Rattle.pll.specs.Fixed.{outputOf};
 ghost use Rattle.pll.specs.Walk.{searchOf};
 ghost use Rattle.woolturret.specs.Answers.{windowOf};
-ghost use Rattle.woolturret.specs.Replies.{Replied, checkReply, setReply, callReply, searchReply};
+ghost use Rattle.woolturret.specs.Replies.{Replied, checkReply, setReply, callReply, searchReply, Told};
 ghost use Rattle.woolturret.specs.Named.{namedOf};
 
 // The check of 1 to 6 of the configuration that a record holds: 0 where nothing is refused, 14 for a malformed record.
@@ -79,4 +83,18 @@ pub extern "C" fn woolturret_search(
     );
     *out = answers::numbers_of(found);
     answers::number_of(found)
+}
+
+// The output of PLL settings as they stand, by fixed point: its number, and the hertz in out; refused, out is as it was.
+#[no_mangle]
+pub extern "C" fn woolturret_output(input: u32, m: u32, n: u32, d: u32, out: &mut u64) -> u32
+    ensures { λ r. ⌜ Told (outputOf input m n d) (now (out .entry)) r (now (out .exit)) ⌝ }
+{
+    match pll::output(Hertz(input), Divider(m), Factor(n), Divider(d)) {
+        Outcome::Refused(k) => k as u32,
+        Outcome::At(hertz) => {
+            *out = hertz;
+            0
+        }
+    }
 }

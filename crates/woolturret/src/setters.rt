@@ -120,7 +120,7 @@ fn pre(two: bool, code: u32) -> Named
     }
 }
 
-// The setters in the order of docs/ and the header; an argument that a setter does not have is passed over.
+// The setters in the order of include/woolturret.h; an argument that a setter does not have is passed over.
 pub fn call_of(setter: u32, a: u32, b: u32) -> Named
     ensures { λ r. ⌜ r ≡ spec.namedOf setter a b ⌝ }
 {

@@ -35,17 +35,17 @@ returns-5 c = sym (look-judge _ _ _ _ _ (omega arith) (quotient-least _ _ 100000
 returns-6 : tie.Need-returns-6
 returns-6 c = sym (look-judge _ _ _ _ _ (omega arith) (quotient-least _ _ 1000000 (omega arith) (omega arith)) (below-two _ _ (omega arith) (omega arith)) (omega arith) ∙ judge-fast _ _ _ (omega arith) (omega arith))
 
-seek-p-requires : tie.Need-seek-p-requires
-seek-p-requires c κs = search needs
+seek-requires : tie.Need-seek-requires
+seek-requires c κs = search needs
 
-seek-q-requires : tie.Need-seek-q-requires
-seek-q-requires c κs = search needs
+seek-requires-2 : tie.Need-seek-requires-2
+seek-requires-2 c κs = search needs
 
 join-requires : tie.Need-join-requires
 join-requires c κs = search needs
 
 returns-7 : tie.Need-returns-7
-returns-7 c = c .join .ensures ∙ rw (c .before .seek-q .ensures, c .before .before .seek-p .ensures, c .before .before .before .before .before .before .before .before .before .before .before .before .before .before .before .pre .1) (sym (look-judge _ _ _ _ _ (omega arith) (quotient-least _ _ 1000000 (omega arith) (omega arith)) (below-two _ _ (omega arith) (omega arith)) (omega arith) ∙ judge-join _ _ _ (omega arith) (omega arith)))
+returns-7 c = c .join .ensures ∙ rw (c .before .seek2 .ensures, c .before .before .seek .ensures, c .before .before .before .before .before .before .before .before .before .before .before .before .before .before .before .pre .1) (sym (look-judge _ _ _ _ _ (omega arith) (quotient-least _ _ 1000000 (omega arith) (omega arith)) (below-two _ _ (omega arith) (omega arith)) (omega arith) ∙ judge-join _ _ _ (omega arith) (omega arith)))
 
 pub look-at-spec : {M : Type 1} → statement M
 look-at-spec =
@@ -59,7 +59,7 @@ look-at-spec =
     returns-4
     returns-5
     returns-6
-    seek-p-requires
-    seek-q-requires
+    seek-requires
+    seek-requires-2
     join-requires
     returns-7)

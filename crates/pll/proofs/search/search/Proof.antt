@@ -61,8 +61,8 @@ add-m c =
     let k = room-here _ _ _ _ r in
     let x = next-m-small _ _ _ _ _ (told _ _ _ _ _ e) in omega arith
 
-add-k : tie.Need-add-k Inv-loop μ-loop
-add-k c =
+add-passes : tie.Need-add-passes Inv-loop μ-loop
+add-passes c =
     let h = c .before .before .before .before in
     let r = h .loop .inv .0 in
     let e = sym (c .before .before .look-at .ensures) ∙ c .enum-told2 .given .1 in
@@ -103,16 +103,16 @@ jump-requires c κs =
     let s = next-n-range _ _ _ _ _ (told _ _ _ _ _ e) in
     (rw (h .loop .inv .1) (unit-pos _ _ (h .before .before .pre .0) (r .m-low) (s .m-high)), s .n-low, r .n-high, rw (c .target .ensures) (target-low _ _ _), rw (c .target .ensures) (target-high _ _ _))
 
-sub-k : tie.Need-sub-k Inv-loop μ-loop
-sub-k c =
+sub-passes : tie.Need-sub-passes Inv-loop μ-loop
+sub-passes c =
     let h = c .before .before .before .before .before .before .before in
     let r = h .loop .inv .0 in
     let e = sym (c .before .before .before .before .before .look-at .ensures) ∙ c .before .before .before .enum-told3 .given .1 in
     let k = room-here _ _ _ _ r in
     let x = skip-less _ _ _ _ _ _ _ _ _ _ (h .before .before .pre .0) r e (h .loop .inv .1) (v-is _ _ _ (c .before .before .before .before .before .before .vco .ensures) (h .loop .inv .1)) (c .before .before .target .ensures) (c .before .jump .ensures) in omega arith
 
-add-k-2 : tie.Need-add-k-2 Inv-loop μ-loop
-add-k-2 c =
+add-passes-2 : tie.Need-add-passes-2 Inv-loop μ-loop
+add-passes-2 c =
     let h = c .before .before .before .before .before .before .before in
     let r = h .loop .inv .0 in
     let e = sym (c .before .before .before .before .before .look-at .ensures) ∙ c .before .before .before .enum-told3 .given .1 in
@@ -160,15 +160,15 @@ search-spec =
     returns
     enum-told-2
     add-m
-    add-k
+    add-passes
     unit-requires-2
     loop-less
     loop-again
     enum-told-3
     target-requires
     jump-requires
-    sub-k
-    add-k-2
+    sub-passes
+    add-passes-2
     loop-less-2
     loop-again-2
     enum-known-l

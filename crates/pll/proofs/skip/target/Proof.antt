@@ -7,11 +7,11 @@ use Rattle.pll.proofs.skip.target.Tie as tie
 least-requires : tie.Need-least-requires
 least-requires c κs = search needs
 
-end-p-requires : tie.Need-end-p-requires
-end-p-requires c κs = search needs
+end-requires : tie.Need-end-requires
+end-requires c κs = search needs
 
-end-q-requires : tie.Need-end-q-requires
-end-q-requires c κs = search needs
+end-requires-2 : tie.Need-end-requires-2
+end-requires-2 c κs = search needs
 
 least-requires-2 : tie.Need-least-requires-2
 least-requires-2 c κs = search needs
@@ -31,8 +31,8 @@ target-spec =
     tie.close
     (tie.spec
     least-requires
-    end-p-requires
-    end-q-requires
+    end-requires
+    end-requires-2
     least-requires-2
     least-requires-3
     most-requires
