@@ -8,10 +8,11 @@
  *   4 PCLK1 request outside 12.5 to 54 MHz
  *   5 PCLK2 request outside 12.5 to 108 MHz
  *   6 M outside 2..63, any N outside 50..432, any Q outside 2..15, PLLI2S R outside 2..7
- *   7 the search has no answer
+ *   7 the search has no answer: no window is given, or no M and N meet the windows
  *  14 malformed request record; of woolturret_set also a setter or a code that there is not
  * All ends are inclusive; of several numbers the least is given, 14 before any.
- * A pointer must point to as many elements as its declaration says: that alone can't be checked here.
+ * What can't be checked here is asked of the caller: a pointer points to as many elements as its declaration says, and bytes and
+ * out do not overlap.
  */
 #ifndef WOOLTURRET_H
 #define WOOLTURRET_H
@@ -27,7 +28,9 @@ extern "C" {
 /* The settings of the main PLL for an input in hertz and windows for its P and Q outputs, ends included.
  * A window is looked at only if its flag is true; one with low above high is never met.
  * Answers 0, with out = passes, M, N, P, Q (P or Q 0 where its window is absent): least M, then greatest N, then the
- * largest P and Q; or 1 or 7 with out = passes, 0, 0, 0, 0. Passes are the looks of document 01's walk, at most 10,008. */
+ * largest P and Q; or 1 or 7 with out = passes, 0, 0, 0, 0.
+ * Passes are the looks at a pair that the Rust's walk makes from M = 2, N = 432 on, the ending one too: at most 10,008, and 0
+ * for a refused input or no window. */
 uint32_t woolturret_search(uint32_t input,
                            bool p, uint32_t pmin, uint32_t pmax,
                            bool q, uint32_t qmin, uint32_t qmax,

@@ -7,8 +7,8 @@ use lib.Dec.{eqb}
 use native.Mathlib.Omega.{arith}
 use borrow.Author.Tests.{eqb-true, eq-eqb}
 use Rattle.kinds.specs.Config.{defaults}
-use Rattle.kinds.specs.Limits.{outsideOf, hseRefusal, checkOf}
-use Rattle.kinds.specs.Setters.{settingOf, hseOf, withHse, putSources, putRequests, putPll, putSai, putI2s, putMco}
+use Rattle.kinds.specs.Limits.{outsideOf, checkOf}
+use Rattle.kinds.specs.Setters.{settingOf, hseOf, putSources, putRequests, putPll, putSai, putI2s, putMco}
 use Rattle.kinds.specs.Calls.{callOf}
 use Rattle.kinds.specs.Table.{Between, HseWithin, AskedWithin, RequestsWithin, PllWithin, SaiWithin, I2sWithin, Checked}
 use Rattle.kinds.specs.Built.{Built, starts, calls}

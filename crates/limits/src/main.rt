@@ -1,4 +1,4 @@
-// Runs the list of all limits through the setters: both ends of each, the numbers just past them, and the greatest.
+// Runs the list of all limits through the setters and the search: both ends of each, the numbers just past them, and the greatest.
 use kinds::CFGR;
 use kinds::Divider;
 use kinds::Factor;
@@ -6,6 +6,8 @@ use kinds::HSEClockMode;
 use kinds::Hertz;
 use kinds::calls::Setter;
 use libc::STDOUT_FILENO;
+use pll::Found;
+use pll::Window;
 ghost use Prim.Native.Nat.{_≤_};
 
 // The setter of a row of the list below.
@@ -28,12 +30,41 @@ fn setter_of(which: u32, x: u32) -> Setter {
     }
 }
 
-// 1 where the setter gives another number than k, else 0.
+// 1 where the search refuses its input, else 0: whether it finds a pair is not asked here.
+fn input_number(x: u32) -> u32 {
+    let any = Window::Within(Hertz(0), Hertz(4294967295));
+    match pll::calculate_mnpq(Hertz(x), any, Window::Absent) {
+        Found::BadInput => 1,
+        Found::Pair {
+            m: _,
+            n: _,
+            p: _,
+            q: _,
+            passes: _,
+        } => 0,
+        Found::Nothing { passes: _ } => 0,
+    }
+}
+
+// The number that a row of the list below gives to a value: row 14 is the search's input.
+fn number_of(which: u32, x: u32) -> u32 {
+    if which == 14 {
+        input_number(x)
+    } else {
+        setter_number(which, x)
+    }
+}
+
+fn setter_number(which: u32, x: u32) -> u32 {
+    let set = CFGR::constrain().call(setter_of(which, x));
+    set.refusal as u32
+}
+
+// 1 where a value gets another number than k, else 0.
 fn wrong(which: u32, x: u32, k: u32) -> u64
     ensures { λ r. ⌜ r ≤ 1 ⌝ }
 {
-    let set = CFGR::constrain().call(setter_of(which, x));
-    if set.refusal as u32 == k { 0 } else { 1 }
+    if number_of(which, x) == k { 0 } else { 1 }
 }
 
 fn wrong_below(which: u32, lo: u32, k: u32) -> u64
@@ -68,10 +99,11 @@ fn main() {
     let pclk = limit(4, 12500000, 54000000, 4) + limit(5, 12500000, 108000000, 5);
     let pll = limit(6, 2, 63, 6) + limit(7, 50, 432, 6) + limit(8, 2, 15, 6);
     let pllsai = limit(9, 50, 432, 6) + limit(10, 2, 15, 6);
+    let search = limit(14, 1000000, 50000000, 1);
     let plli2s = limit(11, 50, 432, 6) + limit(12, 2, 7, 6) + limit(13, 2, 15, 6);
     io::print_decimal(
         STDOUT_FILENO,
-        hse + hclk + sysclk + pclk + pll + pllsai + plli2s,
+        hse + hclk + sysclk + pclk + pll + pllsai + plli2s + search,
     );
-    io::write_all(STDOUT_FILENO, b" of 69 tries at a limit's end went wrong\n");
+    io::write_all(STDOUT_FILENO, b" of 74 tries at a limit's end went wrong\n");
 }

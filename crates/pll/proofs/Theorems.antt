@@ -1,5 +1,5 @@
 -- What is promised of the search and of an output, for every input and window of 32 bits, also one with its low end above its high end; each is read off the lemmas of the other files.
-use Prim.Native.Nat.{ℕ, _-_, _≤_}
+use Prim.Native.Nat.{ℕ, _≤_}
 use mathlib.Core.Path.{_≡_, refl, subst}
 use mathlib.Core.Logic.{_⊎_, inl, inr, ⊎-elim, _↔_}
 use mathlib.Core.Bool.{Bool, true, false, cond}

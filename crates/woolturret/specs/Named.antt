@@ -3,7 +3,6 @@ use Prim.Native.Nat.{ℕ}
 use mathlib.Core.Bool.{Bool, true, false}
 use mathlib.Core.List.{List, [], _∷_}
 use lib.ListN.{getD}
-use Rattle.kinds.specs.declared.calls.Setter.{Setter}
 use Rattle.kinds.specs.declared.calls.Setter.the-variants.{Hse, Hclk, Sysclk, Pclk1, Pclk2, Lse, Lsi, UsePll, UsePll48clk, Pllm, Plln, Pllp, Pllq, UsePllsai, Pllsain, Pllsaip, Pllsaiq, UsePlli2s, Plli2sn, Plli2sq, Plli2sr, Mco1, Mco1pre, Mco2, Mco2pre, SetDefaults}
 use Rattle.kinds.specs.declared.HSEClockMode.the-variants.{Oscillator, Bypass}
 use Rattle.kinds.specs.declared.LSEClockMode.the-variants.{Oscillator as LseOscillator, Bypass as LseBypass}

@@ -1,32 +1,24 @@
+-- `woolturret_output` meets its contract: from the answer and its numbers.
 use Rattle.woolturret.proofs.Replying.{told-refused, told-at}
 use borrow.Author.Needs.{needs}
 use Rattle.woolturret.proofs.woolturret_output.Statement.{statement}
 use Rattle.woolturret.proofs.woolturret_output.Tie as tie
-use Rattle.woolturret.proofs.woolturret_output.Reads as reads
-use Rattle.woolturret.proofs.woolturret_output.Lts as lts
-use Rattle.pll.proofs.output.Reads as output-reads
 
--- src/lib.rt:93:11
 output-requires : tie.Need-output-requires
 output-requires c κs = search needs
 
--- src/lib.rt:94:26
 enum-known-k : tie.Need-enum-known-k
 enum-known-k c = search needs
 
--- src/lib.rt:94:32
 cast-result : tie.Need-cast-result
 cast-result c = search needs
 
--- src/lib.rt:95:21
 enum-known-hertz : tie.Need-enum-known-hertz
 enum-known-hertz c = search needs
 
--- src/lib.rt:89:1
 returns : tie.Need-returns
 returns c = told-refused _ (c .before .before .before .output .ensures) (c .before .k .given .1)
 
--- src/lib.rt:89:1
 returns-2 : tie.Need-returns-2
 returns-2 c = told-at _ (c .before .before .before .output .ensures) (c .before .hertz .given .1)
 

@@ -1,0 +1,55 @@
+/* Boards from C: the PLL settings that some get, what those settings give, and a request record checked and changed. */
+#include <stdio.h>
+#include "woolturret.h"
+
+struct board {
+    const char *name;
+    uint32_t input;
+    uint32_t sysclk;
+    bool usb;
+};
+
+static const struct board boards[] = {
+    {"STM32F746 Discovery, HSE 25 MHz", 25000000, 216000000, false},
+    {"STM32F769 Discovery, HSE 25 MHz, USB", 25000000, 216000000, true},
+    {"Nucleo F767, bypass 8 MHz, USB", 8000000, 216000000, true},
+    {"Nucleo F767, bypass 8 MHz", 8000000, 200000000, false},
+    {"HSI alone, USB", 16000000, 216000000, true},
+    {"bypass 2 MHz", 2000000, 216000000, false},
+    {"bypass 1,999,984 Hz", 1999984, 216000000, false},
+    {"an input that no PLL takes", 60000000, 216000000, false},
+};
+
+/* The record of the Rust's defaults: M 2, Q 2, PLLSAI Q 2, PLLI2S R 2, Q 2, N 50, 192, 192. */
+static const uint8_t defaults[64] = {
+    [2] = 2, [4] = 2, [6] = 2, [7] = 2, [8] = 2, [14] = 50, [16] = 192, [18] = 192,
+};
+
+static void show_board(const struct board *b)
+{
+    uint32_t found[5];
+    uint32_t refusal = woolturret_search(b->input, true, b->sysclk - 1, b->sysclk + 1, b->usb, 47880000, 48120000, found);
+    if (refusal != 0) {
+        printf("%s: refused %u after %u passes\n", b->name, refusal, found[0]);
+        return;
+    }
+    uint64_t hertz = 0;
+    woolturret_output(b->input, found[1], found[2], found[3], &hertz);
+    printf("%s: M %u, N %u, P %u, Q %u in %u passes; P output %llu Hz\n", b->name, found[1], found[2], found[3], found[4],
+           found[0], (unsigned long long)hertz);
+}
+
+int main(void)
+{
+    for (size_t i = 0; i < sizeof boards / sizeof boards[0]; i++)
+        show_board(&boards[i]);
+
+    uint32_t numbers[30];
+    printf("the default record: check %u\n", woolturret_check(defaults, sizeof defaults));
+    uint32_t refusal = woolturret_set(defaults, sizeof defaults, 9, 8, 0, numbers);
+    printf("pllm(8) on it: %u, M is %u\n", refusal, numbers[14]);
+    refusal = woolturret_set(defaults, sizeof defaults, 9, 64, 0, numbers);
+    printf("pllm(64) on it: %u, M is %u\n", refusal, numbers[14]);
+    printf("63 of its bytes: check %u\n", woolturret_check(defaults, 63));
+    return 0;
+}
