@@ -6,7 +6,7 @@ use mathlib.Core.Bool.{Bool, true, false, cond, _&&_}
 use lib.Dec.{leb}
 use native.Mathlib.Omega.{arith}
 use borrow.Author.Tests.{leb-true, leb-false, ne-eqb}
-use Rattle.kinds.specs.Limits.{outsideOf, firstOf, hseRefusal, askedRefusal, requestsRefusal, checkOf}
+use Rattle.kinds.specs.Limits.{outsideOf, limited, firstOf, hseRefusal, askedRefusal, requestsRefusal, checkOf}
 use Rattle.kinds.specs.Table.{Between, Outside, HseWithin, HseOutside, AskedWithin, AskedOutside, Refused, hse, hclk, sysclk, pclk1, pclk2, pllm, plln, pllq, pllsain, pllsaiq, plli2sn, plli2sr, plli2sq, Least, none, least, Checked}
 use Rattle.kinds.specs.declared.CFGR.{CFGR}
 use Rattle.kinds.specs.declared.HSEClock.{HSEClock}
@@ -38,7 +38,7 @@ hse-told NoHse = inside tt (λ o. o)
 hse-told (Oscillator f) = outside-told 4000000 26000000 1 (f .0)
 hse-told (Bypass f) = outside-told 1000000 50000000 1 (f .0)
 
-asked-told : (lo hi k : ℕ) (q : Request) → Told (AskedWithin lo hi q) (AskedOutside lo hi q) k (askedRefusal lo hi k q)
+asked-told : (lo hi k : ℕ) (q : Request) → Told (AskedWithin lo hi q) (AskedOutside lo hi q) k (askedRefusal (limited lo hi k) q)
 asked-told lo hi k NoRequest = inside tt (λ o. o)
 asked-told lo hi k (At f) = outside-told lo hi k (f .0)
 
@@ -147,7 +147,7 @@ module _ {P S : Type 0} {R T : ℕ → Type 0} {l m h i : ℕ} (le : m ≤ h) wh
       below p n (inr t) = omega (arith, c .high (suc k) (c .given p), d .low n t)
 
 -- ---- the whole configuration
-covers-asked : (lo hi k : ℕ) → 0 < k → (r : Request) → Covers (AskedWithin lo hi r) (One k (AskedOutside lo hi r)) k k (askedRefusal lo hi k r)
+covers-asked : (lo hi k : ℕ) → 0 < k → (r : Request) → Covers (AskedWithin lo hi r) (One k (AskedOutside lo hi r)) k k (askedRefusal (limited lo hi k) r)
 covers-asked lo hi k pos r = one k pos (asked-told lo hi k r)
 
 -- any divider or factor

@@ -9,6 +9,7 @@ use Rattle.kinds.specs.declared.Sai.{Sai}
 use Rattle.kinds.specs.declared.I2s.{I2s}
 use Rattle.kinds.specs.declared.Divider.{Divider}
 use Rattle.kinds.specs.declared.Factor.{Factor}
+use Rattle.kinds.specs.declared.Hertz.{Hertz}
 use Rattle.kinds.specs.declared.HSEClock.{HSEClock}
 use Rattle.kinds.specs.declared.HSEClock.the-variants.{Absent as NoHse, Oscillator, Bypass}
 use Rattle.kinds.specs.declared.Request.{Request}
@@ -24,6 +25,26 @@ hseRefusal NoHse = 0
 hseRefusal (Oscillator f) = outsideOf 4000000 26000000 1 (f .0)
 hseRefusal (Bypass f) = outsideOf 1000000 50000000 1 (f .0)
 
+-- a frequency outside lo to hi
+abbrev pub limited : ℕ → ℕ → ℕ → Hertz → ℕ
+limited lo hi k f = outsideOf lo hi k (f .0)
+
+-- 2: HCLK request above 216 MHz
+abbrev pub hclkRefusal : Hertz → ℕ
+hclkRefusal = limited 0 216000000 2
+
+-- 3: SYSCLK request outside 12.5 to 216 MHz
+abbrev pub sysclkRefusal : Hertz → ℕ
+sysclkRefusal = limited 12500000 216000000 3
+
+-- 4: PCLK1 request outside 12.5 to 54 MHz
+abbrev pub pclk1Refusal : Hertz → ℕ
+pclk1Refusal = limited 12500000 54000000 4
+
+-- 5: PCLK2 request outside 12.5 to 108 MHz
+abbrev pub pclk2Refusal : Hertz → ℕ
+pclk2Refusal = limited 12500000 108000000 5
+
 -- 6: M outside 2..63, any N outside 50..432, any Q outside 2..15, PLLI2S R outside 2..7
 abbrev pub mRefusal : Divider → ℕ
 mRefusal d = outsideOf 2 63 6 (d .0)
@@ -38,22 +59,20 @@ abbrev pub rRefusal : Divider → ℕ
 rRefusal d = outsideOf 2 7 6 (d .0)
 
 -- a request that isn't there is never refused
-abbrev pub askedRefusal : ℕ → ℕ → ℕ → Request → ℕ
-askedRefusal lo hi k NoRequest = 0
-askedRefusal lo hi k (At f) = outsideOf lo hi k (f .0)
+abbrev pub askedRefusal : (Hertz → ℕ) → Request → ℕ
+askedRefusal limit NoRequest = 0
+askedRefusal limit (At f) = limit f
 
 -- several at once: the least number; the parts below stand in the order of their numbers
 unfoldable pub firstOf : ℕ → ℕ → ℕ
 firstOf a b = cond (eqb a 0) b a
 
--- 2: HCLK request above 216 MHz; 3: SYSCLK request outside 12.5 to 216 MHz;
--- 4: PCLK1 request outside 12.5 to 54 MHz; 5: PCLK2 request outside 12.5 to 108 MHz
 abbrev pub requestsRefusal : Requests → ℕ
 requestsRefusal q =
-    firstOf (askedRefusal 0 216000000 2 (q .hclk))
-    (firstOf (askedRefusal 12500000 216000000 3 (q .sysclk))
-    (firstOf (askedRefusal 12500000 54000000 4 (q .pclk1))
-    (askedRefusal 12500000 108000000 5 (q .pclk2))))
+    firstOf (askedRefusal hclkRefusal (q .hclk))
+    (firstOf (askedRefusal sysclkRefusal (q .sysclk))
+    (firstOf (askedRefusal pclk1Refusal (q .pclk1))
+    (askedRefusal pclk2Refusal (q .pclk2))))
 
 abbrev pub pllRefusal : Pll → ℕ
 pllRefusal p = firstOf (mRefusal (p .m)) (firstOf (nRefusal (p .n)) (qRefusal (p .q)))

@@ -30,7 +30,7 @@ use Rattle.kinds.specs.declared.PLL48CLK.the-variants.{Pllq, Pllsai}
 use Rattle.kinds.specs.declared.Choice48.{Choice48}
 use Rattle.kinds.specs.declared.Choice48.the-variants.{Pllq as FromPllq, Pllsai as FromPllsai}
 use Rattle.kinds.specs.declared.Request.the-variants.{At}
-use Rattle.kinds.specs.Limits.{hseRefusal, outsideOf, mRefusal, nRefusal, qRefusal, rRefusal}
+use Rattle.kinds.specs.Limits.{hseRefusal, hclkRefusal, sysclkRefusal, pclk1Refusal, pclk2Refusal, mRefusal, nRefusal, qRefusal, rRefusal}
 
 -- number n of 1 to 6: n and the configuration c as it came; 0: the configuration d as it was to become
 unfoldable pub settingOf : ℕ → CFGR → CFGR → Setting
@@ -154,16 +154,16 @@ abbrev pub setHse : CFGR → Hertz → HSEClockMode → Setting
 setHse c f mode = settingOf (hseRefusal (hseOf f mode)) c (withHse c (hseOf f mode))
 
 abbrev pub setHclk : CFGR → Hertz → Setting
-setHclk c f = settingOf (outsideOf 0 216000000 2 (f .0)) c (withHclk c f)
+setHclk c f = settingOf (hclkRefusal f) c (withHclk c f)
 
 abbrev pub setSysclk : CFGR → Hertz → Setting
-setSysclk c f = settingOf (outsideOf 12500000 216000000 3 (f .0)) c (withSysclk c f)
+setSysclk c f = settingOf (sysclkRefusal f) c (withSysclk c f)
 
 abbrev pub setPclk1 : CFGR → Hertz → Setting
-setPclk1 c f = settingOf (outsideOf 12500000 54000000 4 (f .0)) c (withPclk1 c f)
+setPclk1 c f = settingOf (pclk1Refusal f) c (withPclk1 c f)
 
 abbrev pub setPclk2 : CFGR → Hertz → Setting
-setPclk2 c f = settingOf (outsideOf 12500000 108000000 5 (f .0)) c (withPclk2 c f)
+setPclk2 c f = settingOf (pclk2Refusal f) c (withPclk2 c f)
 
 abbrev pub setLse : CFGR → LSEClockMode → Setting
 setLse c mode = set (withLse c (lseOf mode))

@@ -41,7 +41,7 @@ pub fn hse_refusal(hse: HSEClock) -> u8
 
 // A request outside lo to hi is refused with k.
 fn asked_refusal(lo: u32, hi: u32, k: u8, q: Request) -> u8
-    ensures { λ r. ⌜ r ≡ spec.askedRefusal lo hi k q ⌝ }
+    ensures { λ r. ⌜ r ≡ spec.askedRefusal (spec.limited lo hi k) q ⌝ }
 {
     match q {
         Request::Absent => 0,

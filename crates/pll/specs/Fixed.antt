@@ -2,6 +2,7 @@
 use Prim.Native.Nat.{ℕ, _+_, _*_, _/_, _≤_}
 use mathlib.Core.Bool.{Bool, cond, _&&_}
 use lib.Dec.{leb}
+use Rattle.kinds.specs.Table.{Between}
 use Rattle.pll.specs.declared.Outcome.{Outcome}
 use Rattle.pll.specs.declared.Outcome.the-variants.{Refused, At}
 
@@ -10,9 +11,8 @@ abbrev pub inside : ℕ → ℕ → ℕ → Bool
 inside lo hi x = leb lo x && leb x hi
 
 -- the input is in 1 to 50 MHz
-pub record InputOk (f : ℕ) : Type 0 where
-  pub low : 1000000 ≤ f
-  pub high : f ≤ 50000000
+abbrev pub InputOk : ℕ → Type 0
+InputOk f = Between 1000000 50000000 f
 
 -- M is in 2..63, N in 50..432 and the output's divider in 2..15
 pub record SettingsOk (m n d : ℕ) : Type 0 where
