@@ -105,24 +105,34 @@ skip-walk f p q m n k j a b h =
     let g : n - j + (10009 - (k + (n - j))) ≡ 10009 - k = omega arith in
     rw g at (rw e at (turns f p q m j (n - j) (10009 - (k + (n - j))) k (λ N x y. h N x (omega arith))))
 
--- ---- what the search's loop needs of a jump from a look that failed
+-- ---- what the search's loop needs of a jump to j from a look that failed: j is below n, the looks passed over fit into the
+-- count, and the walk from j comes to what the walk from n does
+pub record Skipped (f : ℕ) (p q : Window) (m n k j : ℕ) : Type 0 where
+  pub less : j < n
+  pub count : k + (n - j) ≤ 10008
+  pub room : Room f m j (k + (n - j))
+  pub same : walk (10009 - k) f p q (look f p q m n) m n k ≡ walk (10009 - (k + (n - j))) f p q (look f p q m j) m j (k + (n - j))
+
 module _ (f : ℕ) (p q : Window) (m n k u v t j : ℕ) (i : 1000000 ≤ f) (r : Room f m n k) (e : look f p q m n ≡ NextN) (eu : u ≡ unitOf f m) (ev : v ≡ vcoOf f n m) (et : t ≡ target p q v) (ej : j ≡ jump u n t) where
   range : InRange f m n
   range = next-n-range f p q m n (told f p q m n e)
 
-  pub skip-less : j < n
+  skip-less : j < n
   skip-less = let h = jump-less u n t (range .n-low) in omega arith
 
-  pub skip-room : Room f m j (k + (n - j))
+  skip-room : Room f m j (k + (n - j))
   skip-room = room-down f m n k r j range (let h = jump-low u n t in omega arith) skip-less
 
-  pub skip-count : k + (n - j) ≤ 10008
+  skip-count : k + (n - j) ≤ 10008
   skip-count = room-here f m j (k + (n - j)) skip-room
 
   from : j ≡ jump (unitOf f m) n (target p q (vcoOf f n m))
   from = ej ∙ rw (eu, et, ev)
 
-  pub skip-same : walk (10009 - k) f p q (look f p q m n) m n k ≡ walk (10009 - (k + (n - j))) f p q (look f p q m j) m j (k + (n - j))
+  skip-same : walk (10009 - k) f p q (look f p q m n) m n k ≡ walk (10009 - (k + (n - j))) f p q (look f p q m j) m j (k + (n - j))
   skip-same =
       skip-walk f p q m n k j skip-less skip-count
       (λ N a b. jumped f p q m n range i (r .m-low) e N (subst (λ (x : ℕ). x < N) from a) b)
+
+  pub skipped : Skipped f p q m n k j
+  skipped = record { less = skip-less; count = skip-count; room = skip-room; same = skip-same }

@@ -7,7 +7,7 @@ use Rattle.pll.specs.Skip.{unitOf, vcoBy}
 use Rattle.pll.proofs.Reciprocal.{unit-le, unit-pos, vco-by}
 use Rattle.pll.proofs.Looks.{told, next-m-small, next-n-range}
 use Rattle.pll.proofs.Room.{Room, room-start, room-here, room-m}
-use Rattle.pll.proofs.Skipping.{turn-refuse, turn-m, turn-good, target-low, target-high, skip-less, skip-room, skip-count, skip-same}
+use Rattle.pll.proofs.Skipping.{turn-refuse, turn-m, turn-good, target-low, target-high, skipped}
 use borrow.Author.Needs.{needs}
 use native.Mathlib.Omega.{arith}
 use Rattle.pll.proofs.search.search.Statement.{statement}
@@ -58,14 +58,12 @@ add-m c =
     let h = c .before .before .before .before in
     let r = h .loop .inv .0 in
     let e = sym (c .before .before .look-at .ensures) ∙ c .enum-told2 .given .1 in
-    let k = room-here _ _ _ _ r in
     let x = next-m-small _ _ _ _ _ (told _ _ _ _ _ e) in omega arith
 
 add-passes : tie.Need-add-passes Inv-loop μ-loop
 add-passes c =
     let h = c .before .before .before .before in
     let r = h .loop .inv .0 in
-    let e = sym (c .before .before .look-at .ensures) ∙ c .enum-told2 .given .1 in
     let k = room-here _ _ _ _ r in
     omega arith
 
@@ -76,7 +74,6 @@ loop-less : tie.Need-loop-less Inv-loop μ-loop
 loop-less c =
     let h = c .before .before .before .before .before in
     let r = h .loop .inv .0 in
-    let e = sym (c .before .before .before .look-at .ensures) ∙ c .before .enum-told2 .given .1 in
     let k = room-here _ _ _ _ r in
     omega arith
 
@@ -99,7 +96,6 @@ jump-requires c κs =
     let h = c .before .before .before .before .before in
     let r = h .loop .inv .0 in
     let e = sym (c .before .before .before .look-at .ensures) ∙ c .before .enum-told3 .given .1 in
-    let k = room-here _ _ _ _ r in
     let s = next-n-range _ _ _ _ _ (told _ _ _ _ _ e) in
     (rw (h .loop .inv .1) (unit-pos _ _ (h .before .before .pre .0) (r .m-low) (s .m-high)), s .n-low, r .n-high, rw (c .target .ensures) (target-low _ _ _), rw (c .target .ensures) (target-high _ _ _))
 
@@ -108,32 +104,28 @@ sub-passes c =
     let h = c .before .before .before .before .before .before .before in
     let r = h .loop .inv .0 in
     let e = sym (c .before .before .before .before .before .look-at .ensures) ∙ c .before .before .before .enum-told3 .given .1 in
-    let k = room-here _ _ _ _ r in
-    let x = skip-less _ _ _ _ _ _ _ _ _ _ (h .before .before .pre .0) r e (h .loop .inv .1) (v-is _ _ _ (c .before .before .before .before .before .before .vco .ensures) (h .loop .inv .1)) (c .before .before .target .ensures) (c .before .jump .ensures) in omega arith
+    let s = skipped _ _ _ _ _ _ _ _ _ _ (h .before .before .pre .0) r e (h .loop .inv .1) (v-is _ _ _ (c .before .before .before .before .before .before .vco .ensures) (h .loop .inv .1)) (c .before .before .target .ensures) (c .before .jump .ensures) in omega (arith, s .less)
 
 add-passes-2 : tie.Need-add-passes-2 Inv-loop μ-loop
 add-passes-2 c =
     let h = c .before .before .before .before .before .before .before in
     let r = h .loop .inv .0 in
     let e = sym (c .before .before .before .before .before .look-at .ensures) ∙ c .before .before .before .enum-told3 .given .1 in
-    let k = room-here _ _ _ _ r in
-    let x = skip-count _ _ _ _ _ _ _ _ _ _ (h .before .before .pre .0) r e (h .loop .inv .1) (v-is _ _ _ (c .before .before .before .before .before .before .vco .ensures) (h .loop .inv .1)) (c .before .before .target .ensures) (c .before .jump .ensures) in omega arith
+    let s = skipped _ _ _ _ _ _ _ _ _ _ (h .before .before .pre .0) r e (h .loop .inv .1) (v-is _ _ _ (c .before .before .before .before .before .before .vco .ensures) (h .loop .inv .1)) (c .before .before .target .ensures) (c .before .jump .ensures) in omega (arith, s .count)
 
 loop-less-2 : tie.Need-loop-less-2 Inv-loop μ-loop
 loop-less-2 c =
     let h = c .before .before .before .before .before .before .before in
     let r = h .loop .inv .0 in
     let e = sym (c .before .before .before .before .before .look-at .ensures) ∙ c .before .before .before .enum-told3 .given .1 in
-    let k = room-here _ _ _ _ r in
-    let x = skip-less _ _ _ _ _ _ _ _ _ _ (h .before .before .pre .0) r e (h .loop .inv .1) (v-is _ _ _ (c .before .before .before .before .before .before .vco .ensures) (h .loop .inv .1)) (c .before .before .target .ensures) (c .before .jump .ensures) in let y = skip-count _ _ _ _ _ _ _ _ _ _ (h .before .before .pre .0) r e (h .loop .inv .1) (v-is _ _ _ (c .before .before .before .before .before .before .vco .ensures) (h .loop .inv .1)) (c .before .before .target .ensures) (c .before .jump .ensures) in omega arith
+    let s = skipped _ _ _ _ _ _ _ _ _ _ (h .before .before .pre .0) r e (h .loop .inv .1) (v-is _ _ _ (c .before .before .before .before .before .before .vco .ensures) (h .loop .inv .1)) (c .before .before .target .ensures) (c .before .jump .ensures) in omega (arith, s .less, s .count)
 
 loop-again-2 : tie.Need-loop-again-2 Inv-loop μ-loop
 loop-again-2 c =
     let h = c .before .before .before .before .before .before .before in
     let r = h .loop .inv .0 in
     let e = sym (c .before .before .before .before .before .look-at .ensures) ∙ c .before .before .before .enum-told3 .given .1 in
-    let k = room-here _ _ _ _ r in
-    (skip-room _ _ _ _ _ _ _ _ _ _ (h .before .before .pre .0) r e (h .loop .inv .1) (v-is _ _ _ (c .before .before .before .before .before .before .vco .ensures) (h .loop .inv .1)) (c .before .before .target .ensures) (c .before .jump .ensures), h .loop .inv .1, sym (skip-same _ _ _ _ _ _ _ _ _ _ (h .before .before .pre .0) r e (h .loop .inv .1) (v-is _ _ _ (c .before .before .before .before .before .before .vco .ensures) (h .loop .inv .1)) (c .before .before .target .ensures) (c .before .jump .ensures)) ∙ h .loop .inv .2)
+    let s = skipped _ _ _ _ _ _ _ _ _ _ (h .before .before .pre .0) r e (h .loop .inv .1) (v-is _ _ _ (c .before .before .before .before .before .before .vco .ensures) (h .loop .inv .1)) (c .before .before .target .ensures) (c .before .jump .ensures) in (s .room, h .loop .inv .1, sym (s .same) ∙ h .loop .inv .2)
 
 enum-known-l : tie.Need-enum-known-l Inv-loop μ-loop
 enum-known-l c = search needs
