@@ -1,4 +1,4 @@
-/* Boards from C: the PLL settings that some get, what those settings give, and a request record checked and changed. */
+/* Boards from C: the PLL settings that some get, what those settings give, and a setter tried on a request record. */
 #include <stdio.h>
 #include "woolturret.h"
 

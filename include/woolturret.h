@@ -52,7 +52,9 @@ uint32_t woolturret_check(const uint8_t *bytes, size_t length);
  *   13 use_pllsai   14 pllsain(a)   15 pllsaip(a, as pllp)   16 pllsaiq(a)
  *   17 use_plli2s   18 plli2sn(a)   19 plli2sq(a)   20 plli2sr(a)
  *   21 mco1(a: 0 HSI, 1 LSE, 2 HSE, 3 PLL)   22 mco1pre(a: 0 to 4 for 1 to 5)
- *   23 mco2(a: 0 SYSCLK, 1 PLLI2S, 2 HSE, 3 PLL)   24 mco2pre(a, as mco1pre)   25 set_defaults
+ *   23 mco2(a: 0 SYSCLK, 1 PLLI2S, 2 HSE, 3 PLL)   24 mco2pre(a, as mco1pre)
+ *   25 set_defaults (it asks for SYSCLK 216 MHz, and changes nothing else)
+ * Only the setter's own argument is tested, not the rest of the record: for that there is woolturret_check.
  * An argument that a setter does not have is passed over. Answers 0 to 6, with the configuration handed back in out (as it
  * came, if refused), or 14 with out as it was. The numbers of out:
  *   HSE (0 absent, 1 oscillator, 2 bypass), its hertz, LSE (0, 1, 2 likewise), LSI;

@@ -73,10 +73,10 @@ fn low_above_high(random: &mut Random) -> Case {
 
 /// Prints a line for each kind and, last, the ratios of the mixed kind and of the worst.
 pub fn run() {
-    println!("search, ns each (ratio: ours over the Rust's, below 1 is faster)");
+    say!("search, ns each (ratio: ours over the Rust's, below 1 is faster)");
     let ratios: Vec<f64> = KINDS.iter().map(time_kind).collect();
     let worst = (0..KINDS.len()).max_by(|&i, &j| ratios[i].total_cmp(&ratios[j])).unwrap_or(0);
-    println!(
+    say!(
         "ours over the Rust's: mixed {:.3}, worst {:.3} ({})",
         ratios[KINDS.len() - 1],
         ratios[worst],
@@ -101,7 +101,7 @@ fn time_kind((name, make, wanted): &Kind) -> f64 {
     let each = 1e9 / (cases.len() * rounds) as f64;
     let rust = median(timings.map(|timing| timing.0)) * each;
     let ours = median(timings.map(|timing| timing.1)) * each;
-    println!("{:24} the Rust {rust:9.1}  ours {ours:9.1}  ratio {:6.3}", name, ours / rust);
+    say!("{:24} the Rust {rust:9.1}  ours {ours:9.1}  ratio {:6.3}", name, ours / rust);
     ours / rust
 }
 

@@ -55,7 +55,7 @@ pub fn run(
             compare(&configuration::write(&records::random_configuration(random)));
         }
     }
-    println!("checks: {} records, of them {several} with several refusals at once", tally.total);
+    say!("checks: {} records, of them {several} with several refusals at once", tally.total);
     tally.print("checks");
     tally.total
 }

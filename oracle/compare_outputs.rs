@@ -99,7 +99,7 @@ impl Outputs<'_> {
 
     fn print(&self) {
         let Outputs { as_sysclk, above, .. } = self;
-        println!(
+        say!(
             "outputs: {} settings, of them {as_sysclk} as SYSCLK, {above} of these above 216 MHz",
             self.tally.total
         );

@@ -66,7 +66,7 @@ impl Searches<'_> {
 
     fn print(&self) {
         let Searches { outside, found_outside, .. } = self;
-        println!(
+        say!(
             "searches: {} searches, of them {outside} with an input outside 1 to 50 MHz (1; \
              the Rust searches on there and found an answer to {found_outside})",
             self.tally.total

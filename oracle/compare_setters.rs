@@ -100,7 +100,7 @@ impl Setters<'_> {
 
     fn print(&self) {
         let Setters { unfit, unknown, malformed, .. } = self;
-        println!(
+        say!(
             "setters: {} calls, of them {unfit} with a value that the Rust's parameter \
              can't hold (6), {unknown} with an unknown setter or code (14), {malformed} on a \
              malformed record (14)",

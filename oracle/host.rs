@@ -1,6 +1,11 @@
 //! The host: runs the static library beside the unchanged Rust. Built for comparing it is
 //! called as `compare COUNT SEED`, built with the cfg `bench` as `bench`.
 
+/// A line to standard output; where nobody takes it any more, the run ends.
+macro_rules! say {
+    ($($words:tt)*) => { crate::said(format_args!($($words)*)) };
+}
+
 mod bench;
 mod boundary_cases;
 mod boundary_records;
@@ -19,6 +24,8 @@ mod setters;
 mod tally;
 mod walk;
 
+use std::fmt::Arguments;
+use std::io::Write;
 use std::process::ExitCode;
 
 use panics::Assertions;
@@ -41,6 +48,12 @@ fn main() -> ExitCode {
     }
 }
 
+fn said(words: Arguments) {
+    if writeln!(std::io::stdout(), "{words}").is_err() {
+        std::process::exit(1);
+    }
+}
+
 /// The boundary lists whole and `count` random cases in each of the four comparisons.
 fn compare(count: u64, seed: u64) -> ExitCode {
     panics::install();
@@ -57,7 +70,7 @@ fn compare(count: u64, seed: u64) -> ExitCode {
         1 => "1 difference".to_string(),
         several => format!("{several} differences"),
     };
-    println!(
+    say!(
         "compared with the Rust: {calls} setter calls, {checks} checks, {searches} searches, \
          {outputs} outputs: {outcome} (seed {seed})"
     );

@@ -22,7 +22,7 @@ impl Differences {
         }
         self.0 += 1;
         if self.0 <= PRINTED {
-            println!("different: {}\n  ours     {ours:?}\n  expected {expected:?}", what());
+            say!("different: {}\n  ours     {ours:?}\n  expected {expected:?}", what());
         }
     }
 }
@@ -47,6 +47,6 @@ impl Tally {
     pub fn print(&self, name: &str) {
         let came = self.by_number.iter().enumerate().filter(|(_, count)| **count > 0);
         let row: Vec<String> = came.map(|(number, count)| format!("{number}: {count}")).collect();
-        println!("{name} by refusal number: {}", row.join(", "));
+        say!("{name} by refusal number: {}", row.join(", "));
     }
 }

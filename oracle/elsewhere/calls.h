@@ -9,7 +9,7 @@ enum { SEARCH = 1, CHECK = 2, SET = 3, OUTPUT = 4, MOST_BYTES = 256, MOST_OUT = 
 struct call {
     uint32_t function;
     uint32_t numbers[7];
-    uint32_t length;
+    uint64_t length;
     uint64_t hertz;
     uint32_t out[MOST_OUT];
     uint8_t bytes[MOST_BYTES];

@@ -54,13 +54,11 @@ static struct reply ask(const struct call *c)
     return r;
 }
 
+/* Bytes past the first MOST_BYTES stay here: of a record that is too long the library reads none. */
 static void put_bytes(struct call *c, const uint8_t *bytes, size_t length)
 {
-    if (length > MOST_BYTES)
-        stop("more bytes than a call holds");
-    c->length = (uint32_t)length;
-    if (length > 0)
-        memcpy(c->bytes, bytes, length);
+    c->length = length;
+    memcpy(c->bytes, bytes, length < MOST_BYTES ? length : MOST_BYTES);
 }
 
 /* out goes there and comes back, so that a number which the library leaves alone is left alone here. */
