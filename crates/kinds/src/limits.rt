@@ -10,7 +10,7 @@ ghost use mathlib.Core.Path.{_≡_};
 ghost use Rattle.kinds.specs.Limits as spec;
 
 // The refusal k where x lies outside lo to hi, else 0: the one range test of every limit.
-pub fn outside(lo: u32, hi: u32, k: u8, x: u32) -> u8
+pub(crate) fn outside(lo: u32, hi: u32, k: u8, x: u32) -> u8
     ensures { λ r. ⌜ r ≡ spec.outsideOf lo hi k x ⌝ }
 {
     if x < lo {
@@ -29,7 +29,7 @@ fn first_of(a: u8, b: u8) -> u8
     if a == 0 { b } else { a }
 }
 
-pub fn hse_refusal(hse: HSEClock) -> u8
+pub(crate) fn hse_refusal(hse: HSEClock) -> u8
     ensures { λ r. ⌜ r ≡ spec.hseRefusal hse ⌝ }
 {
     match hse {

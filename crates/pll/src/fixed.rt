@@ -8,7 +8,7 @@ ghost use Rattle.pll.specs.Fixed.{recipOf, outOf};
 ghost use Rattle.pll.specs.Skip.{unitOf, vcoBy};
 
 // r(d): 2^30 / d, rounded to the nearest whole number.
-pub fn recip(d: Divider) -> u64
+pub(crate) fn recip(d: Divider) -> u64
     requires { ⌜ 0 < d .0 ⌝ }
     ensures { λ r. ⌜ r ≡ recipOf (d .0) ⌝ }
 {
@@ -17,7 +17,7 @@ pub fn recip(d: Divider) -> u64
 }
 
 // What does not change while N does: kept, so that a step of N costs no division.
-pub fn unit(f: Hertz, m: Divider) -> u64
+pub(crate) fn unit(f: Hertz, m: Divider) -> u64
     requires { ⌜ (f .0 ≤ 50000000) × (2 ≤ m .0) ⌝ }
     ensures { λ r. ⌜ r ≡ unitOf (f .0) (m .0) ⌝ }
 {
@@ -26,7 +26,7 @@ pub fn unit(f: Hertz, m: Divider) -> u64
 }
 
 // The VCO of a multiplier.
-pub fn vco(u: u64, n: Factor) -> u64
+pub(crate) fn vco(u: u64, n: Factor) -> u64
     requires { ⌜ (u ≤ 3125000 * 536870912) × (n .0 ≤ 432) ⌝ }
     ensures { λ r. ⌜ r ≡ vcoBy u (n .0) ⌝ }
 {
@@ -35,7 +35,7 @@ pub fn vco(u: u64, n: Factor) -> u64
 }
 
 // An output of a VCO with a divider.
-pub fn out(v: u64, d: Divider) -> u64
+pub(crate) fn out(v: u64, d: Divider) -> u64
     requires { ⌜ (v ≤ 10800000000) × (2 ≤ d .0) ⌝ }
     ensures { λ r. ⌜ r ≡ outOf v (d .0) ⌝ }
 {

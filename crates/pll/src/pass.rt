@@ -26,7 +26,7 @@ fn join(a: Seek, b: Seek) -> Look
 }
 
 // The limits of f / M are tested as products: a division would be the dearest step of a pass.
-pub fn look_at(f: Hertz, p: Window, q: Window, m: Divider, n: Factor, v: u64) -> Look
+pub(crate) fn look_at(f: Hertz, p: Window, q: Window, m: Divider, n: Factor, v: u64) -> Look
     requires { ⌜ (2 ≤ m .0) × (v ≡ vcoOf (f .0) (n .0) (m .0)) ⌝ }
     ensures { λ r. ⌜ r ≡ spec.look (f .0) p q (m .0) (n .0) ⌝ }
 {

@@ -14,7 +14,7 @@ ghost use mathlib.Core.Path.{_≡_};
 ghost use Prim.Native.Nat.{_≤_};
 ghost use Rattle.pll.specs.Walk.{wholeWalk};
 
-pub fn search(f: Hertz, p: Window, q: Window) -> Found
+pub(crate) fn search(f: Hertz, p: Window, q: Window) -> Found
     requires { ⌜ (1000000 ≤ f .0) × (f .0 ≤ 50000000) ⌝ }
     ensures { λ r. ⌜ r ≡ wholeWalk (f .0) p q ⌝ }
 {

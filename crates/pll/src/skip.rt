@@ -20,7 +20,7 @@ fn most(a: u64, b: u64) -> u64
 }
 
 // Where the VCOs up to v that both windows take end; never below 50 MHz, where the walk leaves the M.
-pub fn target(p: Window, q: Window, v: u64) -> u64
+pub(crate) fn target(p: Window, q: Window, v: u64) -> u64
     ensures { λ r. ⌜ r ≡ spec.target p q v ⌝ }
 {
     let w = least(v, 432000000);
@@ -31,7 +31,7 @@ pub fn target(p: Window, q: Window, v: u64) -> u64
 }
 
 // The greatest N below n whose VCO is below t, or 49, where the walk leaves the M.
-pub fn jump(u: u64, n: Factor, t: u64) -> Factor
+pub(crate) fn jump(u: u64, n: Factor, t: u64) -> Factor
     requires { ⌜ (0 < u) × (50 ≤ n .0) × (n .0 ≤ 432) × (50000000 ≤ t) × (t ≤ 432000001) ⌝ }
     ensures { λ r. ⌜ r .0 ≡ spec.jump u (n .0) t ⌝ }
 {

@@ -72,7 +72,7 @@ fn highest(s: Side, lo: Hertz, v: u64) -> u32
 }
 
 // The divider that the window gets, if one fits.
-pub fn seek(s: Side, w: Window, v: u64) -> Seek
+pub(crate) fn seek(s: Side, w: Window, v: u64) -> Seek
     ensures { λ r. ⌜ r ≡ seekOf (dividersOf s) w v ⌝ }
 {
     match w {
@@ -82,7 +82,7 @@ pub fn seek(s: Side, w: Window, v: u64) -> Seek
 }
 
 // Where the VCOs up to v that fit the window end.
-pub fn end(s: Side, w: Window, v: u64) -> u64
+pub(crate) fn end(s: Side, w: Window, v: u64) -> u64
     ensures { λ r. ⌜ r ≡ spec.end (dividersOf s) w v ⌝ }
 {
     match w {

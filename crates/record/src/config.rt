@@ -254,7 +254,7 @@ fn mco_at(bytes: &[u8]) -> Mco
     }
 }
 
-pub fn cfgr_at(bytes: &[u8]) -> CFGR
+pub(crate) fn cfgr_at(bytes: &[u8]) -> CFGR
     requires { ⌜ 64 ≤ length (now bytes) ⌝ }
     ensures { λ r. ⌜ r ≡ spec.cfgrOf (now (bytes .entry)) ⌝ }
 {

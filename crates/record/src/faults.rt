@@ -128,7 +128,7 @@ fn number_faults(bytes: &[u8], found: Found) -> Found
 }
 
 // The whole layout.
-pub fn find_fault(bytes: &[u8]) -> Found
+pub(crate) fn find_fault(bytes: &[u8]) -> Found
     requires { ⌜ 64 ≤ length (now bytes) ⌝ }
     ensures { λ r. ⌜ r ≡ spec.breachOf (now (bytes .entry)) ⌝ }
 {

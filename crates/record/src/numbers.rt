@@ -5,14 +5,14 @@ ghost use Prim.Native.Nat.{_+_, _<_, _≤_};
 ghost use lib.ListN.{length, getD};
 ghost use Rattle.record.specs.Numbers.{u16At, u32At, flagOf};
 
-pub fn byte(bytes: &[u8], at: usize) -> u8
+pub(crate) fn byte(bytes: &[u8], at: usize) -> u8
     requires { ⌜ at < length (now bytes) ⌝ }
     ensures { λ r. ⌜ r ≡ getD (now (bytes .entry)) at 0 ⌝ }
 {
     bytes[at]
 }
 
-pub fn u16_at(bytes: &[u8], at: usize) -> u16
+pub(crate) fn u16_at(bytes: &[u8], at: usize) -> u16
     requires { ⌜ at + 2 ≤ length (now bytes) ⌝ }
     ensures { λ r. ⌜ r ≡ u16At (now (bytes .entry)) at ⌝ }
 {
@@ -21,7 +21,7 @@ pub fn u16_at(bytes: &[u8], at: usize) -> u16
     low as u16 + 256 * (high as u16)
 }
 
-pub fn u32_at(bytes: &[u8], at: usize) -> u32
+pub(crate) fn u32_at(bytes: &[u8], at: usize) -> u32
     requires { ⌜ at + 4 ≤ length (now bytes) ⌝ }
     ensures { λ r. ⌜ r ≡ u32At (now (bytes .entry)) at ⌝ }
 {
@@ -31,7 +31,7 @@ pub fn u32_at(bytes: &[u8], at: usize) -> u32
 }
 
 // Whether the flag whose bit has this value is on.
-pub fn flag(bytes: &[u8], value: u16) -> bool
+pub(crate) fn flag(bytes: &[u8], value: u16) -> bool
     requires { ⌜ (0 < value) × (2 ≤ length (now bytes)) ⌝ }
     ensures { λ r. ⌜ r ≡ flagOf (now (bytes .entry)) value ⌝ }
 {

@@ -75,7 +75,7 @@ fn choice(k: Choice48) -> u32
     }
 }
 
-pub fn numbers_of(c: CFGR) -> [u32; 30]
+pub(crate) fn numbers_of(c: CFGR) -> [u32; 30]
     ensures { λ r. ⌜ r ≡ spec.numbersOf c ⌝ }
 {
     let s = c.sources;

@@ -121,7 +121,7 @@ fn pre(two: bool, code: u32) -> Named
 }
 
 // The setters in the order of include/woolturret.h; an argument that a setter does not have is passed over.
-pub fn call_of(setter: u32, a: u32, b: u32) -> Named
+pub(crate) fn call_of(setter: u32, a: u32, b: u32) -> Named
     ensures { λ r. ⌜ r ≡ spec.namedOf setter a b ⌝ }
 {
     match setter {
