@@ -6,11 +6,10 @@ use hal::rcc::CFGR;
 use crate::boundary_records;
 use crate::configuration::{self, at, Numbers};
 use crate::library;
-use crate::panics::{caught, Assertions};
-use crate::random::Random;
 use crate::records;
+use crate::run::Run;
 use crate::setters::{Call, HSE};
-use crate::tally::{Differences, Tally};
+use crate::tally::Tally;
 
 /// Setters of the requests, and the number that is the request's flag.
 const REQUEST_SETTERS: [(u32, usize); 4] =
@@ -28,45 +27,54 @@ const FACTOR_SETTERS: [(u32, usize); 8] = [
     (20, at::I2S_R),
 ];
 
-/// Compares every boundary record, then `count` random ones; answers how many there were.
-pub fn run(
-    count: u64,
-    random: &mut Random,
-    assertions: &Assertions,
-    differences: &mut Differences,
-) -> u64 {
-    let mut tally = Tally::default();
-    let mut several = 0;
-    let mut compare = |record: &[u8]| {
-        let refusals = refusals(assertions, record);
-        let ours = library::check(record);
-        tally.count(ours);
-        several += u64::from(refusals.len() > 1 && refusals.iter().min() != refusals.iter().max());
-        let least = refusals.into_iter().min().unwrap_or(0);
-        differences.compare(ours, least, || format!("check of the record {record:02x?}"));
-    };
+struct Checks<'a> {
+    run: &'a mut Run,
+    tally: Tally,
+    /// Records that deserve several numbers.
+    several: u64,
+}
+
+/// Compares every boundary record, then random ones; answers how many there were.
+pub fn run(run: &mut Run) -> u64 {
+    let mut checks = Checks { run, tally: Tally::default(), several: 0 };
     for record in boundary_records::all() {
-        compare(&record);
+        checks.compare(&record);
     }
-    for _ in 0..count {
+    for _ in 0..checks.run.count {
+        let random = &mut checks.run.random;
         if random.once_in(4) {
-            compare(&records::damaged(random));
+            let record = records::damaged(random);
+            checks.compare(&record);
         } else {
-            compare(&configuration::write(&records::random_configuration(random)));
+            let record = configuration::write(&records::random_configuration(random));
+            checks.compare(&record);
         }
     }
+    let Checks { tally, several, .. } = checks;
     say!("checks: {} records, of them {several} with several refusals at once", tally.total);
     tally.print("checks");
     tally.total
 }
 
-/// Every refusal that a record deserves.
-fn refusals(assertions: &Assertions, record: &[u8]) -> Vec<u32> {
-    let Some(numbers) = configuration::read(record) else {
-        return vec![14];
-    };
-    let set = |call: &Call| caught(assertions, || call.of_the_rust(CFGR::defaults())).err();
-    calls(&numbers).iter().filter_map(set).collect()
+impl Checks<'_> {
+    fn compare(&mut self, record: &[u8]) {
+        let refusals = self.refusals(record);
+        let ours = library::check(record);
+        self.tally.count(ours);
+        self.several += u64::from(refusals.iter().min() != refusals.iter().max());
+        let least = refusals.into_iter().min().unwrap_or(0);
+        let what = || format!("check of the record {record:02x?}");
+        self.run.differences.compare(ours, least, what);
+    }
+
+    /// Every refusal that a record deserves.
+    fn refusals(&self, record: &[u8]) -> Vec<u32> {
+        let Some(numbers) = configuration::read(record) else {
+            return vec![14];
+        };
+        let set = |call: &Call| self.run.rust(|| call.of_the_rust(CFGR::defaults())).err();
+        calls(&numbers).iter().filter_map(set).collect()
+    }
 }
 
 /// The setter calls that give a configuration the values which a setter can refuse.

@@ -6,10 +6,10 @@ use hal::rcc::CFGR;
 use crate::cases::{self, USB};
 use crate::configuration::{at, Numbers};
 use crate::library;
-use crate::panics::{caught, Assertions};
 use crate::random::Random;
 use crate::records;
-use crate::tally::{Differences, Tally};
+use crate::run::Run;
+use crate::tally::Tally;
 
 /// What `library::output` leaves in the lent number on a refusal.
 const UNTOUCHED: u64 = library::UNTOUCHED_HERTZ;
@@ -22,28 +22,23 @@ type Settings = [u32; 4];
 const LIMITS: [(u32, u32); 4] = [(1_000_000, 50_000_000), (2, 63), (50, 432), (2, 15)];
 
 struct Outputs<'a> {
-    assertions: &'a Assertions,
-    differences: &'a mut Differences,
+    run: &'a mut Run,
     tally: Tally,
     /// P outputs compared as SYSCLK, and outputs above 216 MHz, which the Rust only refuses.
     as_sysclk: u64,
     above: u64,
 }
 
-/// Compares the ends of every limit, then `count` random settings; answers how many there were.
-pub fn run(
-    count: u64,
-    random: &mut Random,
-    assertions: &Assertions,
-    differences: &mut Differences,
-) -> u64 {
+/// Compares the ends of every limit, then random settings; answers how many there were.
+pub fn run(run: &mut Run) -> u64 {
     let tally = Tally::default();
-    let mut outputs = Outputs { assertions, differences, tally, as_sysclk: 0, above: 0 };
+    let mut outputs = Outputs { run, tally, as_sysclk: 0, above: 0 };
     for settings in boundary_settings() {
         outputs.compare(settings);
     }
-    for _ in 0..count {
-        outputs.compare(random_settings(random));
+    for _ in 0..outputs.run.count {
+        let settings = random_settings(&mut outputs.run.random);
+        outputs.compare(settings);
     }
     outputs.print();
     outputs.tally.total
@@ -56,16 +51,15 @@ impl Outputs<'_> {
         self.tally.count(ours.0);
         let within = |at: usize| (LIMITS[at].0..=LIMITS[at].1).contains(&settings[at]);
         let refusal = if !within(0) { 1 } else if (1..4).all(within) { 0 } else { 6 };
-        let differences = &mut *self.differences;
         let what = || format!("output {settings:?}");
         if refusal > 0 {
-            differences.compare(ours, (refusal, UNTOUCHED), what);
+            self.run.differences.compare(ours, (refusal, UNTOUCHED), what);
             return;
         }
-        differences.compare(ours.0, 0, what);
+        self.run.differences.compare(ours.0, 0, what);
         let valid = self.derived(settings, false).map(|(_, valid)| valid);
         let met = (u64::from(USB.0)..=u64::from(USB.1)).contains(&ours.1);
-        self.differences.compare(Ok(met), valid, what);
+        self.run.differences.compare(Ok(met), valid, what);
         if [2, 4, 6, 8].contains(&d) {
             self.compare_sysclk(settings, ours.1);
         }
@@ -77,7 +71,7 @@ impl Outputs<'_> {
         self.as_sysclk += 1;
         self.above += u64::from(ours > MHZ_216);
         let ours = if ours > MHZ_216 { Err(8) } else { Ok(ours) };
-        self.differences.compare(ours, sysclk, || format!("output {settings:?} as SYSCLK"));
+        self.run.differences.compare(ours, sysclk, || format!("output {settings:?} as SYSCLK"));
     }
 
     /// SYSCLK, and whether Q's output is a valid 48 MHz clock, of the Rust's `calculate_clocks`.
@@ -91,7 +85,7 @@ impl Outputs<'_> {
         numbers[at::N] = n;
         numbers[at::P] = if use_pll { d / 2 - 1 } else { 0 };
         numbers[at::Q] = d;
-        caught(self.assertions, || {
+        self.run.rust(|| {
             let (clocks, _) = CFGR::of_numbers(&numbers).derive();
             (u64::from(clocks.sysclk().raw()), clocks.is_pll48clk_valid())
         })

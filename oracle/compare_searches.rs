@@ -6,34 +6,28 @@ use hal::rcc::CFGR;
 use crate::boundary_cases;
 use crate::cases::{self, Case};
 use crate::library;
-use crate::panics::{caught, Assertions};
-use crate::random::Random;
-use crate::tally::{Differences, Tally};
+use crate::run::Run;
+use crate::tally::Tally;
 use crate::walk::walk;
 
 struct Searches<'a> {
-    assertions: &'a Assertions,
-    differences: &'a mut Differences,
+    run: &'a mut Run,
     tally: Tally,
     /// Searches with an input outside 1 to 50 MHz, and how often the Rust found an answer.
     outside: u64,
     found_outside: u64,
 }
 
-/// Compares every boundary case, then `count` random ones; answers how many there were.
-pub fn run(
-    count: u64,
-    random: &mut Random,
-    assertions: &Assertions,
-    differences: &mut Differences,
-) -> u64 {
+/// Compares every boundary case, then random ones; answers how many there were.
+pub fn run(run: &mut Run) -> u64 {
     let tally = Tally::default();
-    let mut searches = Searches { assertions, differences, tally, outside: 0, found_outside: 0 };
+    let mut searches = Searches { run, tally, outside: 0, found_outside: 0 };
     for case in boundary_cases::all() {
         searches.compare(case);
     }
-    for _ in 0..count {
-        searches.compare(cases::any(random));
+    for _ in 0..searches.run.count {
+        let case = cases::any(&mut searches.run.random);
+        searches.compare(case);
     }
     searches.print();
     searches.tally.total
@@ -44,11 +38,11 @@ impl Searches<'_> {
         let Case { input, p, q } = case;
         let ours = library::search(input, p, q);
         self.tally.count(ours.0);
-        let rust = caught(self.assertions, || CFGR::search(input, p, q));
+        let rust = self.run.rust(|| CFGR::search(input, p, q));
         if !(1_000_000..=50_000_000).contains(&input) {
             self.outside += 1;
             self.found_outside += u64::from(matches!(rust, Ok(Some(_))));
-            self.differences.compare(ours, (1, [0; 5]), || format!("search {case:?}"));
+            self.run.differences.compare(ours, (1, [0; 5]), || format!("search {case:?}"));
             return;
         }
         let walked = walk(input, p, q);
@@ -58,8 +52,8 @@ impl Searches<'_> {
             Ok(None) => (7, [passes, 0, 0, 0, 0]),
             Err(number) => (number, [passes, 0, 0, 0, 0]),
         };
-        self.differences.compare(ours, expected, || format!("search {case:?}"));
-        self.differences.compare(walked, expected, || {
+        self.run.differences.compare(ours, expected, || format!("search {case:?}"));
+        self.run.differences.compare(walked, expected, || {
             format!("search {case:?}, document 01's walk in place of ours")
         });
     }

@@ -6,15 +6,14 @@ use hal::rcc::CFGR;
 use crate::boundary_records::beside;
 use crate::configuration::{self, Numbers};
 use crate::library::{self, UNTOUCHED};
-use crate::panics::{caught, Assertions};
 use crate::random::Random;
 use crate::records;
+use crate::run::Run;
 use crate::setters::{Argument, Call, HSE, SETTERS};
-use crate::tally::{Differences, Tally};
+use crate::tally::Tally;
 
 pub struct Setters<'a> {
-    assertions: &'a Assertions,
-    differences: &'a mut Differences,
+    run: &'a mut Run,
     tally: Tally,
     /// Calls that the Rust cannot be given: the argument does not fit its parameter.
     unfit: u64,
@@ -24,21 +23,15 @@ pub struct Setters<'a> {
     malformed: u64,
 }
 
-/// Compares every boundary call, then `count` random ones; answers how many there were.
-pub fn run(
-    count: u64,
-    random: &mut Random,
-    assertions: &Assertions,
-    differences: &mut Differences,
-) -> u64 {
+/// Compares every boundary call, then random ones; answers how many there were.
+pub fn run(run: &mut Run) -> u64 {
     let tally = Tally::default();
-    let mut setters =
-        Setters { assertions, differences, tally, unfit: 0, unknown: 0, malformed: 0 };
+    let mut setters = Setters { run, tally, unfit: 0, unknown: 0, malformed: 0 };
     for call in boundary_calls() {
         setters.call(&configuration::write(&records::DEFAULTS), call);
         setters.call(&configuration::write(&records::FULL), call);
     }
-    setters.random_calls(count, random);
+    setters.random_calls();
     setters.print();
     setters.tally.total
 }
@@ -50,7 +43,7 @@ impl Setters<'_> {
         let expected = self.expected(before, call);
         let ours = library::set(record, call.setter, call.a, call.b);
         self.tally.count(ours.0);
-        self.differences.compare(ours, expected, || {
+        self.run.differences.compare(ours, expected, || {
             let name = SETTERS.get(call.setter as usize).map_or("unknown", |setter| setter.0);
             format!("{name} {call:?} on the record {record:02x?}")
         });
@@ -71,7 +64,7 @@ impl Setters<'_> {
             self.unfit += 1;
             return (6, before);
         }
-        match caught(self.assertions, || call.of_the_rust(CFGR::of_numbers(&before)).numbers()) {
+        match self.run.rust(|| call.of_the_rust(CFGR::of_numbers(&before)).numbers()) {
             Ok(after) => (0, after),
             Err(number) => (number, before),
         }
@@ -79,9 +72,10 @@ impl Setters<'_> {
 
     /// Chains of calls, most from the Rust's defaults, some from a configuration that no
     /// setters build; now and then a call on a damaged record instead.
-    fn random_calls(&mut self, count: u64, random: &mut Random) {
+    fn random_calls(&mut self) {
         let mut now = records::DEFAULTS;
-        for _ in 0..count {
+        for _ in 0..self.run.count {
+            let random = &mut self.run.random;
             if random.once_in(24) {
                 let from_defaults = random.below(3) > 0;
                 now = match from_defaults {
@@ -91,7 +85,8 @@ impl Setters<'_> {
             }
             let call = random_call(random);
             if random.once_in(16) {
-                self.call(&records::damaged(random), call);
+                let record = records::damaged(random);
+                self.call(&record, call);
             } else {
                 now = self.call(&configuration::write(&now), call).unwrap_or(now);
             }

@@ -19,6 +19,7 @@ mod library;
 mod panics;
 mod random;
 mod records;
+mod run;
 mod self_test;
 mod setters;
 mod tally;
@@ -28,9 +29,7 @@ use std::fmt::Arguments;
 use std::io::Write;
 use std::process::ExitCode;
 
-use panics::Assertions;
-use random::Random;
-use tally::Differences;
+use run::Run;
 
 fn main() -> ExitCode {
     let arguments: Vec<String> = std::env::args().skip(1).collect();
@@ -57,15 +56,14 @@ fn said(words: Arguments) {
 /// The boundary lists whole and `count` random cases in each of the four comparisons.
 fn compare(count: u64, seed: u64) -> ExitCode {
     panics::install();
-    let assertions = Assertions::of_the_rust();
-    let random = &mut Random::new(seed);
-    let mut differences = Differences::default();
-    self_test::run(&assertions, &mut differences);
-    let calls = compare_setters::run(count, random, &assertions, &mut differences);
-    let checks = compare_checks::run(count, random, &assertions, &mut differences);
-    let searches = compare_searches::run(count, random, &assertions, &mut differences);
-    let outputs = compare_outputs::run(count, random, &assertions, &mut differences);
-    let outcome = match differences.0 {
+    let run = &mut Run::new(count, seed);
+    self_test::run(&run.assertions, &mut run.differences);
+    let calls = compare_setters::run(run);
+    let checks = compare_checks::run(run);
+    let searches = compare_searches::run(run);
+    let outputs = compare_outputs::run(run);
+    let differences = run.differences.0;
+    let outcome = match differences {
         0 => "all equal".to_string(),
         1 => "1 difference".to_string(),
         several => format!("{several} differences"),
@@ -74,5 +72,5 @@ fn compare(count: u64, seed: u64) -> ExitCode {
         "compared with the Rust: {calls} setter calls, {checks} checks, {searches} searches, \
          {outputs} outputs: {outcome} (seed {seed})"
     );
-    ExitCode::from(u8::from(differences.0 > 0))
+    ExitCode::from(u8::from(differences > 0))
 }
