@@ -1,4 +1,4 @@
--- Document 01, "Start-up": enums as numbers, in the Rust's order from 0.
+-- Document 01, "Start-up": enums as numbers, in the Rust's order from 0; "Search": P as the divider that it is.
 use Prim.Native.Nat.{ℕ}
 use Rattle.kinds.specs.declared.PLLP.{PLLP}
 use Rattle.kinds.specs.declared.PLLP.the-variants.{Div2, Div4, Div6, Div8}
@@ -14,6 +14,12 @@ pllpCode Div2 = 0
 pllpCode Div4 = 1
 pllpCode Div6 = 2
 pllpCode Div8 = 3
+
+abbrev pub pDividerOf : PLLP → ℕ
+pDividerOf Div2 = 2
+pDividerOf Div4 = 4
+pDividerOf Div6 = 6
+pDividerOf Div8 = 8
 
 abbrev pub mco1Code : MCO1 → ℕ
 mco1Code Hsi = 0

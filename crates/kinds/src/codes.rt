@@ -1,4 +1,5 @@
-// Enums as numbers: in the Rust's order from 0.
+// Enums as numbers: in the Rust's order from 0; and P as the divider that it is.
+use super::Divider;
 use super::MCO1;
 use super::MCO2;
 use super::MCOPRE;
@@ -14,6 +15,17 @@ pub fn pllp_code(p: PLLP) -> u32
         PLLP::Div4 => 1,
         PLLP::Div6 => 2,
         PLLP::Div8 => 3,
+    }
+}
+
+pub fn p_divider(p: PLLP) -> Divider
+    ensures { λ r. ⌜ r .0 ≡ spec.pDividerOf p ⌝ }
+{
+    match p {
+        PLLP::Div2 => Divider(2),
+        PLLP::Div4 => Divider(4),
+        PLLP::Div6 => Divider(6),
+        PLLP::Div8 => Divider(8),
     }
 }
 
