@@ -31,7 +31,7 @@ use Rattle.pll.specs.declared.Sought.{Sought}
 use Rattle.pll.specs.declared.Found.{Found}
 use Rattle.pll.specs.declared.Found.the-variants.{Pair}
 use Rattle.pll.proofs.Theorems.{output-given}
-use Rattle.configure.specs.Configure.{baseOf, wantedOf, pWindowOf, qWindowOf, pOutputOf, withP, withQ, withMN, offOf, takenOf, keptOf, settledOf, chosenOf, configuredOf}
+use Rattle.configure.specs.Configure.{baseOf, wantedOf, pWindowOf, qWindowOf, pOutputOf, withP, withQ, withMN, offOf, takenOf, keptOf, settledOf, baseIn, wantedIn, pWindowIn, qWindowIn, fitsIn, chosenOf, configuredOf}
 use Rattle.configure.specs.declared.Configured.{Configured}
 use Rattle.configure.specs.declared.Configured.the-variants.{Refused, Ready}
 
@@ -113,7 +113,7 @@ settled-found c b p t x y e f g = f ∙ rw (g, e) (found p)
 pub chosen-is : (c : CFGR) {r : Configured} {f b w : ℕ} {p q : Window}
     → r ≡ settledOf c b p q (eqb w (pOutputOf c)) → q ≡ qWindowOf (c .pll .pll48clk) → p ≡ pWindowOf w b
     → w ≡ wantedOf (c .requests .sysclk) b → b ≡ baseOf f → f ≡ inputOf (c .sources .hse) → r ≡ chosenOf c
-unfolding chosenOf
+unfolding chosenOf baseIn wantedIn pWindowIn qWindowIn fitsIn
 chosen-is c er eq ep ew eb ef = rw (er, eq, ep, ew, eb, ef)
 
 pub configured-in : (c : CFGR) {r : Configured} {n : ℕ} → n ≡ checkOf c → n ≡ 0 → r ≡ chosenOf c → r ≡ configuredOf c

@@ -1,2 +1,7 @@
--- Laws that belong to no one function.
+-- The parts of pll_configure, the ways that it goes, and last the theorems that are promised.
 pub mod Configuring
+pub mod Going
+pub mod Taking
+pub mod Near
+pub mod Again
+pub mod Theorems

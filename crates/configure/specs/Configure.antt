@@ -89,20 +89,20 @@ settledOf c b (Within lo hi) Absent fit = keptOf c b (Within lo hi) fit
 settledOf c b p (Within lo hi) fit = takenOf c (searchOf b p (Within lo hi))
 
 -- 16 × b of a configuration's input, SYSCLK wanted, and the windows
-abbrev pub baseIn : CFGR → ℕ
+unfoldable pub baseIn : CFGR → ℕ
 baseIn c = baseOf (inputOf (c .sources .hse))
 
-abbrev pub wantedIn : CFGR → ℕ
+unfoldable pub wantedIn : CFGR → ℕ
 wantedIn c = wantedOf (c .requests .sysclk) (baseIn c)
 
-abbrev pub pWindowIn : CFGR → Window
+unfoldable pub pWindowIn : CFGR → Window
 pWindowIn c = pWindowOf (wantedIn c) (baseIn c)
 
-abbrev pub qWindowIn : CFGR → Window
+unfoldable pub qWindowIn : CFGR → Window
 qWindowIn c = qWindowOf (c .pll .pll48clk)
 
 -- the present M, N, P derive the wanted value
-abbrev pub fitsIn : CFGR → Bool
+unfoldable pub fitsIn : CFGR → Bool
 fitsIn c = eqb (wantedIn c) (pOutputOf c)
 
 -- of a configuration that no check refuses
