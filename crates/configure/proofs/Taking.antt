@@ -117,10 +117,10 @@ module _ (c : CFGR) (m : Divider) (n : Factor) (x y : Sought) (k : ℕ) (e : sea
         pll = record {
           m = rw (taken-m (c .pll) m n x y) (record { low = w .m-low; high = w .m-high });
           n = rw (taken-n (c .pll) m n x y) (record { low = w .n-low; high = w .n-high });
-          q = q-in (qWindowIn c) _ l y (best .q-chosen) q₀
+          q = q-in (qWindowIn c) _ l y (best .q-chosen) q₀;
         };
         sai = h .sai;
-        i2s = h .i2s
+        i2s = h .i2s;
       }
 
   -- its P output is at most 216 MHz
