@@ -1,0 +1,7 @@
+-- The lemmas by idea, each file above those that use it.
+pub mod Rounded
+pub mod Quotient
+pub mod Exactly
+pub mod Ieee
+pub mod Table
+pub mod Deriving
