@@ -29,8 +29,8 @@ use Rattle.pll.specs.declared.Outcome.the-variants.{Refused as NoOutput, At as 
 use Rattle.pll.proofs.Theorems.{output-given}
 use Rattle.clocks.specs.Ratio.{ratioUp}
 use Rattle.clocks.specs.Rows.{hpreRow, ppreRow}
-use Rattle.clocks.specs.Derive.{baseOf, pOutputOf, sysclkOf, wantedOf, hpreOf, ahbOf, capOf, timclkOf, apbOf, validOf, cap1Of, cap2Of, clocksBy, configBy, grantedOf, settledOf, derivedOf}
-use Rattle.clocks.specs.Inner.{hpreHeld, ppreHeld, wholeOf, Sysclk, Hclk, sysclkBy}
+use Rattle.clocks.specs.Derive.{baseOf, pOutputOf, sysclkOf, wantedOf, hpreOf, ahbFor, capOf, timclkOf, apbFor, validOf, cap1Of, cap2Of, clocksBy, configBy, clocksOf, configOf, ahbOf, apb1Of, apb2Of, settledOf, derivedOf}
+use Rattle.clocks.specs.Inner.{grantedOf, hpreHeld, ppreHeld, wholeOf, Sysclk, Hclk, sysclkBy}
 use Rattle.clocks.specs.declared.Hpre.{Hpre}
 use Rattle.clocks.specs.declared.Ppre.{Ppre}
 use Rattle.clocks.specs.declared.Ahb.{Ahb}
@@ -108,19 +108,15 @@ pub hpre-by : (s w : ℕ) {r : ℕ} {x : Hpre} → (w ≡ 0 → ⊥) → x ≡ h
 unfolding hpreOf
 hpre-by s w n e er = e ∙ rw er (simp (ne-eqb _ _ n))
 
-pub ahb-is : (s : ℕ) (q : Request) {k w : ℕ} (x : Hpre) → w ≡ wantedOf s s q → x ≡ hpreHeld (hpreOf s w) → k ≡ s / wholeOf (x .div) → record { hclk = record { 0 = k }; hpre = x .code } ≡ ahbOf s q
-unfolding ahbOf
+pub ahb-is : (s : ℕ) (q : Request) {k w : ℕ} (x : Hpre) → w ≡ wantedOf s s q → x ≡ hpreHeld (hpreOf s w) → k ≡ s / wholeOf (x .div) → record { hclk = record { 0 = k }; hpre = x .code } ≡ ahbFor s q
+unfolding ahbFor
 ahb-is s q {w = w} x ew ex ek = rw (ek, divider-whole s w x ex, ap (λ (z : Hpre). z .code) ex, ew)
 
-hclk-range : (s : ℕ) (q : Request) → Sysclk s → Between 1 216000000 (ahbOf s q .hclk .0)
-unfolding ahbOf
+pub hclk-range : (s : ℕ) (q : Request) → Sysclk s → Between 1 s (ahbFor s q .hclk .0)
+unfolding ahbFor
 hclk-range s q k =
     let p = hpre-power s (wantedOf s s q) in
-    let d = hpreOf s (wantedOf s s q) .divider in
-    record {
-      low = le-div-iff-mul-le (power-low p) .1 (omega (arith, power-high p, k .low));
-      high = le-trans (div-le-self s d) (k .high);
-    }
+    record { low = le-div-iff-mul-le (power-low p) .1 (omega (arith, power-high p, k .low)); high = div-le-self s _ }
 
 -- ---- PCLK
 pub wanted-range : (most h : ℕ) (q : Request) → Hclk most h q → Between 1 216000000 (wantedOf most h q)
@@ -135,8 +131,8 @@ pub hertz : {a : Hertz} {x : ℕ} → a .0 ≡ x → a ≡ record { 0 = x }
 hertz e = ap (λ (x : ℕ). record { 0 = x }) e
 
 pub apb-is : (most h : ℕ) (q : Request) {w r : ℕ} {x : Ppre} {t : Hertz} → w ≡ wantedOf most h q → r ≡ ratioUp h w → x ≡ ppreHeld (ppreRow r) → t .0 ≡ timclkOf (h / x .div .0) (x .div .0)
-    → record { pclk = record { 0 = h / x .div .0 }; timclk = t; ppre = x .code } ≡ apbOf most h q
-unfolding apbOf
+    → record { pclk = record { 0 = h / x .div .0 }; timclk = t; ppre = x .code } ≡ apbFor most h q
+unfolding apbFor
 apb-is most h q ew er ex et = rw (hertz et, ex, er, ew)
 
 cap-range : (s lo hi : ℕ) → Between 1 216000000 lo → Between 1 216000000 hi → Between 1 216000000 (capOf s lo hi)
@@ -152,16 +148,16 @@ weaken hi NoRequest h a = tt
 weaken hi (Asked f) h a = record { low = a .low; high = le-trans (a .high) h }
 
 -- what a PCLK asks of HCLK, its cap (lo or hi) and its request (up to hi)
-pub hclk-facts : (s lo hi most : ℕ) (k q : Request) (h : Ahb) → Sysclk s → h ≡ ahbOf s k → most ≡ capOf s lo hi → Between 1 216000000 lo → Between 1 216000000 hi → AskedWithin 12500000 hi q → Hclk most (h .hclk .0) q
+pub hclk-facts : (s lo hi most : ℕ) (k q : Request) (h : Ahb) → Sysclk s → h ≡ ahbFor s k → most ≡ capOf s lo hi → Between 1 216000000 lo → Between 1 216000000 hi → AskedWithin 12500000 hi q → Hclk most (h .hclk .0) q
 hclk-facts s lo hi most k q h y e t a b z =
     let r = cap-range s lo hi a b in
     let x = hclk-range s k y in
-    let f : h .hclk .0 ≡ ahbOf s k .hclk .0 = ap (λ (u : Ahb). u .hclk .0) e in
-    record { most-low = rw t (r .low); most-high = rw t (r .high); low = rw f (x .low); high = rw f (x .high); asked = weaken hi q (b .high) z }
+    let f : h .hclk .0 ≡ ahbFor s k .hclk .0 = ap (λ (u : Ahb). u .hclk .0) e in
+    record { most-low = rw t (r .low); most-high = rw t (r .high); low = rw f (x .low); high = rw f (le-trans (x .high) (y .high)); asked = weaken hi q (b .high) z }
 
 -- ---- the answer
 pub granted-is : (s : ℕ) (q : Requests) (o : Sources) (valid : Bool) {bus : Ahb} {one two : Apb} {m k : ℕ} {x : Clocks} {y : InternalRCCConfig}
-    → bus ≡ ahbOf s (q .hclk) → m ≡ cap1Of s → one ≡ apbOf m (bus .hclk .0) (q .pclk1) → k ≡ cap2Of s → two ≡ apbOf k (bus .hclk .0) (q .pclk2)
+    → bus ≡ ahbFor s (q .hclk) → m ≡ cap1Of s → one ≡ apbFor m (bus .hclk .0) (q .pclk1) → k ≡ cap2Of s → two ≡ apbFor k (bus .hclk .0) (q .pclk2)
     → x ≡ clocksBy s bus one two o valid → y ≡ configBy s bus one two → At x y ≡ grantedOf s q o valid
 unfolding grantedOf
 granted-is s q o valid eb em eo ek et ex ey = rw (ex, ey, eo, et, em, ek, eb)
@@ -228,6 +224,10 @@ module _ (c : CFGR) (k : Checked c) {f : ℕ} (ef : f ≡ inputOf (c .sources .h
   pub sysclk-within : {s : ℕ} → s ≡ sysclkBy f (c .pll) → s ≤ 216000000 → Sysclk s
   sysclk-within es h = let e : _ ≡ sysclkOf c = es ∙ rw ef (sysclk-by c) in rw e (sysclk-facts c k (rw e at h))
 
+granted-at : (c : CFGR) → grantedOf (sysclkOf c) (c .requests) (c .sources) (validOf (inputOf (c .sources .hse)) (c .pll) (c .sai)) ≡ At (clocksOf c) (configOf c)
+unfolding grantedOf clocksOf configOf ahbOf apb1Of apb2Of
+granted-at c = refl
+
 -- ---- refused with 8, or not; and with 1 to 6 before
 module _ (c : CFGR) {f s : ℕ} (ef : f ≡ inputOf (c .sources .hse)) (es : s ≡ sysclkBy f (c .pll)) where
   sysclk-told : s ≡ sysclkOf c
@@ -239,7 +239,7 @@ module _ (c : CFGR) {f s : ℕ} (ef : f ≡ inputOf (c .sources .hse)) (es : s �
 
   pub settled-at : {v : Bool} {r : Derived} → s ≤ 216000000 → v ≡ validOf f (c .pll) (c .sai) → r ≡ grantedOf s (c .requests) (c .sources) v → r ≡ settledOf c
   unfolding settledOf
-  settled-at h ev er = let k : sysclkOf c ≤ 216000000 = rw sysclk-told at h in er ∙ rw (ev, ef, sysclk-told) (simp (le-ltb _ _ k))
+  settled-at h ev er = let k : sysclkOf c ≤ 216000000 = rw sysclk-told at h in er ∙ rw (ev, ef, sysclk-told) (granted-at c ∙ simp (le-ltb _ _ k))
 
 pub derived-in : (c : CFGR) {r : Derived} {n : ℕ} → n ≡ checkOf c → n ≡ 0 → r ≡ settledOf c → r ≡ derivedOf c
 unfolding derivedOf

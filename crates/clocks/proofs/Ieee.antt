@@ -1,10 +1,9 @@
--- The crate's whole-number definitions are IEEE 754's: `round24` is the conversion of an integer to an f32, and `quotient24` the f32 quotient.
--- And the unit that `quotient24` counts in is of no account, as long as the quotient's whole part has 24 digits in it.
+-- The definitions over whole numbers are IEEE 754's: `round24` is the conversion of an integer to binary32, `quotient24` the binary32 quotient, and `ratioUp` that quotient taken up.
 use mathlib.Core.Path.{_≡_, sym, ap, _∙_, subst}
 use mathlib.Core.Logic.{_⊎_, inl, inr}
 use mathlib.Core.Bool.{false}
 use Prim.Native.Nat.{ℕ, _+_, _-_, _*_, _/_, _%_, _^_, _≤_, _<_}
-use native.Mathlib.Nat.{le-trans, le-of-eq, le-of-lt, lt-of-le-of-lt, mul-one, one-mul, mul-comm, mul-assoc, mul-left-comm, mul-right-comm, mul-pos, mul-le-mul-right, mul-le-mul-left, mul-lt-mul-of-pos-right, mod-lt, eq-of-mul-eq-mul-right}
+use native.Mathlib.Nat.{le-trans, le-of-eq, le-of-lt, lt-of-le-of-lt, lt-of-lt-of-le, le-of-mul-le-mul-right, lt-of-mul-lt-mul-right, mul-one, one-mul, mul-comm, mul-assoc, mul-left-comm, mul-right-comm, mul-pos, mul-le-mul-right, mul-le-mul-left, mul-lt-mul-of-pos-right, mod-lt, eq-of-mul-eq-mul-right}
 use native.Mathlib.Omega.{arith}
 use lib.IntN.{pos}
 use lib.Dec.{lit<, lit≤}
@@ -16,7 +15,8 @@ use lib.Ieee.Nearest.{closest, closest-same, div-same}
 use lib.Ieee.Scale.{grid-scale, normal-of-fraction, round-val}
 use lib.Ieee.Back.{whole-unique, round-whole}
 use lib.Ieee.Fits.{ofInt-fits}
-use Rattle.clocks.specs.Ratio.{extra, digits24, round24, quotient24, up}
+use lib.Ieee.Positive.{num, den, den-pos, value→cross}
+use Rattle.clocks.specs.Ratio.{extra, digits24, round24, quotient24, up, ratioUp}
 use Rattle.clocks.proofs.Rounded.{split-le, digits24-le, near-below, past-none, round24-at, round24-pos, round24-lt, up-more, up-same}
 use Rattle.clocks.proofs.Quotient.{U, U-pos, round24-exact, quotient-value, ofInt-is}
 
@@ -69,36 +69,39 @@ round24-value x h = subst (λ (f : Float). HasValue f false (round24 x) 1) (sym 
         (round-val binary32 x 1 (lt-of-le-of-lt (digits24-le (x * U) 1 153 (shl-lt 28 149 h)) (lit< tt))))
     go (inr l) = subst (λ (z : ℕ). HasValue (round binary32 false x 1) false z 1) (sym (small-same x l)) (round-whole binary32 false x (le-of-lt l))
 
--- an integer and the integer that it rounds to are the same f32
-pub conversion : (x : ℕ) → x < 2 ^ 28 → ofInt binary32 (pos (round24 x)) ≡ ofInt binary32 (pos x)
-conversion x h = whole-unique binary32 (ofInt binary32 (pos (round24 x))) (ofInt binary32 (pos x)) false (round24 x) (ofInt-fits binary32 (pos (round24 x))) (ofInt-fits binary32 (pos x)) (round24-exact x h) (round24-value x h)
+-- a whole number rounded first and one that is converted as it stands are the same f32
+pub rounded-first-is-ieee : (x : ℕ) → x < 2 ^ 28 → ofInt binary32 (pos (round24 x)) ≡ ofInt binary32 (pos x)
+rounded-first-is-ieee x h = whole-unique binary32 (ofInt binary32 (pos (round24 x))) (ofInt binary32 (pos x)) false (round24 x) (ofInt-fits binary32 (pos (round24 x))) (ofInt-fits binary32 (pos x)) (round24-exact x h) (round24-value x h)
 
 -- ---- the quotient of two integers, each converted to an f32
 pub quotient : (n d : ℕ) → 0 < n → n < 2 ^ 28 → 0 < d → d < 2 ^ 28 → HasValue (div binary32 (ofInt binary32 (pos n)) (ofInt binary32 (pos d))) false (quotient24 (round24 n) (round24 d)) (2 ^ 149)
 quotient n d N N' D D' = quotient-value (round24 n) (round24 d) (ofInt binary32 (pos n)) (ofInt binary32 (pos d)) (round24-pos n N) (round24-lt n N') (round24-pos d D) (round24-value n N') (round24-value d D')
 
--- ---- any unit from 2 ^ -52 down to 2 ^ -149 gives the same ceiling
-up-scale : (g c w : ℕ) → 0 < c → 0 < w → up (g * w) (c * w) ≡ up g c
-up-scale g c w C W = go (split-le g (g / c * c))
-  where
-    e : g * w / (c * w) ≡ g / c
-    e = div-same (g * w) (c * w) g c (mul-pos C W) C (simp (mul-assoc, mul-comm, mul-left-comm))
+-- ---- a fraction taken up to a whole number depends on its value alone
+module _ (a b c d : ℕ) (B : 0 < b) (D : 0 < d) (e : a * d ≡ c * b) where
+  parts : a / b ≡ c / d
+  parts = div-same a b c d B D e
 
-    f : g * w / (c * w) * (c * w) ≡ g / c * c * w
-    f = ap (λ (z : ℕ). z * (c * w)) e ∙ sym (mul-assoc (g / c) c w)
+  across : a / b * b * d ≡ c / d * d * b
+  across = mul-right-comm (a / b) b d ∙ ap (λ (z : ℕ). z * d * b) parts
 
-    go : (g ≤ g / c * c) ⊎ (g / c * c < g) → up (g * w) (c * w) ≡ up g c
-    go (inl l) = sym (up-same (g * w) (c * w) (mul-pos C W) (le-trans (mul-le-mul-right w l) (le-of-eq (sym f)))) ∙ e ∙ up-same g c C l
-    go (inr l) = sym (up-more (g * w) (c * w) (mul-pos C W) (lt-of-le-of-lt (le-of-eq f) (mul-lt-mul-of-pos-right l W))) ∙ ap (λ (z : ℕ). z + 1) e ∙ up-more g c C l
+  whole-too : a ≤ a / b * b → c ≤ c / d * d
+  whole-too h = le-of-mul-le-mul-right (le-trans (le-of-eq (sym e)) (le-trans (mul-le-mul-right d h) (le-of-eq across))) B
 
-pub any-unit : (a b s : ℕ) → 0 < a → 0 < b → b < 2 ^ 29 → 52 ≤ s → s ≤ 149 → up (quotient24 a b) (2 ^ 149) ≡ up (digits24 (a * 2 ^ s) b) (2 ^ s)
-any-unit a b s A B B' S S' =
-    let t = 149 - s in
-    let w : 2 ^ s * 2 ^ t ≡ 2 ^ 149 = sym (pow-add 2 s t) ∙ ap (λ (z : ℕ). 2 ^ z) (together s S') in
-    let big : 2 ^ 23 * b ≤ a * 2 ^ s =
-    le-trans (mul-le-mul-left (2 ^ 23) (le-of-lt B')) (le-trans (lit≤ tt) (le-trans (pow-mono {i = 52} {j = s} S) (le-trans (le-of-eq (sym (one-mul (2 ^ s)))) (mul-le-mul-right (2 ^ s) A)))) in
-    let g : quotient24 a b ≡ digits24 (a * 2 ^ s) b * 2 ^ t = ap (λ (z : ℕ). digits24 z b) (ap (λ (z : ℕ). a * z) (sym w) ∙ sym (mul-assoc a (2 ^ s) (2 ^ t))) ∙ digits24-scale (a * 2 ^ s) b t B big in
-    ap (λ (z : ℕ). up z (2 ^ 149)) g ∙ ap (λ (z : ℕ). up (digits24 (a * 2 ^ s) b * 2 ^ t) z) (sym w) ∙ up-scale (digits24 (a * 2 ^ s) b) (2 ^ s) (2 ^ t) (pow-pos s) (pow-pos t)
-  where
-    together : (s : ℕ) → s ≤ 149 → s + (149 - s) ≡ 149
-    together s h = omega arith
+  more-too : a / b * b < a → c / d * d < c
+  more-too h = lt-of-mul-lt-mul-right b (lt-of-le-of-lt (le-of-eq (sym across)) (lt-of-lt-of-le (mul-lt-mul-of-pos-right h D) (le-of-eq e)))
+
+  up-fraction : up a b ≡ up c d
+  up-fraction = elim (split-le a (a / b * b)) [
+    | inl l ↦ sym (up-same a b B l) ∙ parts ∙ up-same c d D (whole-too l)
+    | inr l ↦ sym (up-more a b B l) ∙ ap (λ (z : ℕ). z + 1) parts ∙ up-more c d D (more-too l)
+  ]
+
+-- the ratio is IEEE 754's binary32 quotient of the two numbers, each converted to binary32, taken up to a whole number
+pub ratio-is-ieee : (n d : ℕ) → 0 < n → n < 2 ^ 28 → 0 < d → d < 2 ^ 28
+    → ratioUp n d ≡ up (num (div binary32 (ofInt binary32 (pos n)) (ofInt binary32 (pos d)))) (den (div binary32 (ofInt binary32 (pos n)) (ofInt binary32 (pos d))))
+unfolding ratioUp
+ratio-is-ieee n d N N' D D' =
+    let x = div binary32 (ofInt binary32 (pos n)) (ofInt binary32 (pos d)) in
+    let g = quotient24 (round24 n) (round24 d) in
+    sym (up-fraction (num x) (den x) g U (den-pos x) U-pos (value→cross x g U (quotient n d N N' D D')))

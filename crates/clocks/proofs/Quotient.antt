@@ -88,10 +88,11 @@ U-pos = pow-pos 149
 pub quotient-le : (a b : ℕ) → a < 2 ^ 29 → quotient24 a b ≤ 2 ^ 29 * U
 quotient-le a b h = le-trans (digits24-le (a * U) b 154 (shl-lt 29 149 h)) (le-of-eq (pow-add 2 29 149))
 
+pub quotient-rounds : (a b : ℕ) → a < 2 ^ 29 → HasValue (round binary32 false a b) false (quotient24 a b) U
+quotient-rounds a b h = round-val binary32 a b (lt-of-le-of-lt (digits24-le (a * U) b 154 (shl-lt 29 149 h)) (lit< tt))
+
 pub quotient-value : (a b : ℕ) (x y : Float) → 0 < a → a < 2 ^ 29 → 0 < b → HasValue x false a 1 → HasValue y false b 1 → HasValue (div binary32 x y) false (quotient24 a b) U
-quotient-value a b x y A h B p q =
-    subst (λ (z : Float). HasValue z false (quotient24 a b) U) (sym (div-at binary32 x y a b A B p q))
-    (round-val binary32 a b (lt-of-le-of-lt (digits24-le (a * U) b 154 (shl-lt 29 149 h)) (lit< tt)))
+quotient-value a b x y A h B p q = rw (div-at binary32 x y a b A B p q) (quotient-rounds a b h)
 
 -- ---- its whole part is an f32 too: below 2 ^ 24 every whole number is one, and from there on the quotient is whole itself
 small-enough : (k : ℕ) → k ≤ 154 → k - 149 ≤ 76

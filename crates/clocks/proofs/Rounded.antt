@@ -173,16 +173,22 @@ up-same g U h k =
     below : (a b : ℕ) → b < suc a → b ≤ a
     below a b h = omega arith
 
--- ---- a number above zero stays above zero
+-- ---- a fraction of 1 or more stays above zero
 few : (z : ℕ) → 0 < z → z - 24 < z
 few z h = omega arith
 
+pub digits24-pos : (n d : ℕ) → 0 < d → d ≤ n → 0 < digits24 n d
+digits24-pos n d D h =
+    let k = extra n d in
+    let w : 1 ≤ n / d = le-div-iff-mul-le D .1 (le-trans (le-of-eq (one-mul d)) h) in
+    let u : 2 ^ k ≤ n / d = size-reaches (n / d) k (few (size (n / d)) (size-gt (n / d) 0 w)) in
+    let q : 1 ≤ n / d / 2 ^ k = le-div-iff-mul-le (pow-pos k) .1 (le-trans (le-of-eq (one-mul (2 ^ k))) u) in
+    let r : 1 ≤ n / (d * 2 ^ k) = rw (div-div-eq-div-mul n d (2 ^ k)) at q in
+    mul-pos (le-trans r (nearest-ge (n / (d * 2 ^ k)) (compare (n % (d * 2 ^ k) * 2) (d * 2 ^ k)))) (pow-pos k)
+
 pub round24-pos : (x : ℕ) → 0 < x → 0 < round24 x
-round24-pos x h =
-    let k = size x - 24 in
-    let u : 2 ^ k ≤ x = size-reaches x k (few (size x) (size-gt x 0 h)) in
-    let q : 1 ≤ x / 2 ^ k = le-div-iff-mul-le (pow-pos k) .1 (le-trans (le-of-eq (one-mul (2 ^ k))) u) in
-    subst (λ (z : ℕ). 0 < z) (round24-at x k refl) (mul-pos (lt-of-lt-of-le (lit< tt) (le-trans q (nearest-ge (x / 2 ^ k) (compare (x % 2 ^ k * 2) (2 ^ k))))) (pow-pos k))
+unfolding round24
+round24-pos x h = digits24-pos x 1 (lit< tt) h
 
 pub round24-lt : (x : ℕ) → x < 2 ^ 28 → round24 x < 2 ^ 29
 unfolding round24

@@ -86,9 +86,9 @@ module _ (r : ℕ) where
 
 -- ---- every divider is a power of two: HPRE's up to 2 ^ 9, PPRE's up to 2 ^ 4
 pub record Power (k : ℕ) (x : Row) : Type 0 where
-  exponent : ℕ
-  small : exponent ≤ k
-  is : x .divider ≡ 2 ^ exponent
+  pub exponent : ℕ
+  pub small : exponent ≤ k
+  pub is : x .divider ≡ 2 ^ exponent
 
 power : (j : ℕ) {k : ℕ} (x : Row) → j ≤ k → x .divider ≡ 2 ^ j → Power k x
 power j x h e = record { exponent = j; small = h; is = e }

@@ -53,8 +53,8 @@ hpreOf s w = cond (eqb w 0) (row 512 15) (hpreRow (ratioUp s w))
 abbrev pub ahbBy : ℕ → Row → Ahb
 ahbBy s x = record { hclk = record { 0 = s / x .divider }; hpre = x .code }
 
-unfoldable pub ahbOf : ℕ → Request → Ahb
-ahbOf s q = ahbBy s (hpreOf s (wantedOf s s q))
+unfoldable pub ahbFor : ℕ → Request → Ahb
+ahbFor s q = ahbBy s (hpreOf s (wantedOf s s q))
 
 -- PCLK's cap: the first while SYSCLK is at most 180 MHz, else the second
 unfoldable pub capOf : ℕ → ℕ → ℕ → ℕ
@@ -75,8 +75,8 @@ abbrev pub apbBy : ℕ → Row → Apb
 apbBy h x = record { pclk = record { 0 = h / x .divider }; timclk = record { 0 = timclkOf (h / x .divider) (x .divider) }; ppre = x .code }
 
 -- PCLK wanted is the smaller of its cap and its request (HCLK without one)
-unfoldable pub apbOf : ℕ → ℕ → Request → Apb
-apbOf most h q = apbBy h (ppreRow (ratioUp h (wantedOf most h q)))
+unfoldable pub apbFor : ℕ → ℕ → Request → Apb
+apbFor most h q = apbBy h (ppreRow (ratioUp h (wantedOf most h q)))
 
 -- wait states: 0 up to 30 MHz, one more for each further 30 MHz begun, 7 above 210 MHz
 unfoldable pub waitsOf : ℕ → ℕ
@@ -148,23 +148,27 @@ configBy s bus one two =
       «vos_scale» = scaleOf s;
     }
 
--- what is derived from SYSCLK s
-abbrev pub grantedBy : ℕ → Ahb → Apb → Apb → Sources → Bool → Derived
-grantedBy s bus one two o valid = At (clocksBy s bus one two o valid) (configBy s bus one two)
+-- the buses of a configuration
+unfoldable pub ahbOf : CFGR → Ahb
+ahbOf c = ahbFor (sysclkOf c) (c .requests .hclk)
 
-unfoldable pub grantedOf : ℕ → Requests → Sources → Bool → Derived
-grantedOf s q o valid =
-    grantedBy s (ahbOf s (q .hclk))
-    (apbOf (cap1Of s) (ahbOf s (q .hclk) .hclk .0) (q .pclk1))
-    (apbOf (cap2Of s) (ahbOf s (q .hclk) .hclk .0) (q .pclk2))
-    o valid
+unfoldable pub apb1Of : CFGR → Apb
+apb1Of c = apbFor (cap1Of (sysclkOf c)) (ahbOf c .hclk .0) (c .requests .pclk1)
 
--- 8: derived SYSCLK above 216 MHz
+unfoldable pub apb2Of : CFGR → Apb
+apb2Of c = apbFor (cap2Of (sysclkOf c)) (ahbOf c .hclk .0) (c .requests .pclk2)
+
+-- its clocks and their field codes
+unfoldable pub clocksOf : CFGR → Clocks
+clocksOf c = clocksBy (sysclkOf c) (ahbOf c) (apb1Of c) (apb2Of c) (c .sources) (validOf (inputOf (c .sources .hse)) (c .pll) (c .sai))
+
+unfoldable pub configOf : CFGR → InternalRCCConfig
+configOf c = configBy (sysclkOf c) (ahbOf c) (apb1Of c) (apb2Of c)
+
+-- derive takes the settings as they stand: 8 for a derived SYSCLK above 216 MHz
 unfoldable pub settledOf : CFGR → Derived
-settledOf c =
-    cond (ltb 216000000 (sysclkOf c)) (Refused 8)
-    (grantedOf (sysclkOf c) (c .requests) (c .sources) (validOf (inputOf (c .sources .hse)) (c .pll) (c .sai)))
+settledOf c = cond (ltb 216000000 (sysclkOf c)) (Refused 8) (At (clocksOf c) (configOf c))
 
--- derive checks 1 to 6 again and takes the settings as they stand
+-- it checks 1 to 6 again
 unfoldable pub derivedOf : CFGR → Derived
 derivedOf c = cond (eqb (checkOf c) 0) (settledOf c) (Refused (checkOf c))

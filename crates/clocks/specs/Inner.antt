@@ -1,18 +1,24 @@
 -- What the private functions ask of each other and hand on. No promise names these.
 use Prim.Native.Nat.{ℕ, _%_, _^_, _≤_}
 use mathlib.Core.Path.{_≡_}
-use mathlib.Core.Bool.{cond}
+use mathlib.Core.Bool.{Bool, cond}
 use lib.IntN.{pos}
 use lib.Ieee.{Float, binary32, ofInt, toUnsigned}
 use Rattle.kinds.specs.Codes.{pDividerOf}
 use Rattle.kinds.specs.Table.{AskedWithin}
 use Rattle.kinds.specs.declared.Pll.{Pll}
+use Rattle.kinds.specs.declared.Sources.{Sources}
+use Rattle.kinds.specs.declared.Requests.{Requests}
 use Rattle.kinds.specs.declared.Request.{Request}
 use Rattle.pll.specs.Fixed.{vcoOf, outOf}
 use Rattle.clocks.specs.Rows.{Row}
-use Rattle.clocks.specs.Derive.{baseOf}
+use Rattle.clocks.specs.Derive.{baseOf, cap1Of, cap2Of, ahbFor, apbFor, clocksBy, configBy}
 use Rattle.clocks.specs.declared.Hpre.{Hpre}
 use Rattle.clocks.specs.declared.Ppre.{Ppre}
+use Rattle.clocks.specs.declared.Ahb.{Ahb}
+use Rattle.clocks.specs.declared.Apb.{Apb}
+use Rattle.clocks.specs.declared.Derived.{Derived}
+use Rattle.clocks.specs.declared.Derived.the-variants.{At}
 
 -- a row as the code holds it, HPRE's divider as an f32
 abbrev pub hpreHeld : Row → Hpre
@@ -48,3 +54,14 @@ pub record Hclk (most h : ℕ) (q : Request) : Type 0 where
 -- SYSCLK by the input and the group of the main PLL
 unfoldable pub sysclkBy : ℕ → Pll → ℕ
 sysclkBy f l = cond (l .use_pll) (outOf (vcoOf f (l .n .0) (l .m .0)) (pDividerOf (l .p))) (baseOf f)
+
+-- what a SYSCLK grants
+abbrev pub grantedBy : ℕ → Ahb → Apb → Apb → Sources → Bool → Derived
+grantedBy s bus one two o valid = At (clocksBy s bus one two o valid) (configBy s bus one two)
+
+unfoldable pub grantedOf : ℕ → Requests → Sources → Bool → Derived
+grantedOf s q o valid =
+    grantedBy s (ahbFor s (q .hclk))
+    (apbFor (cap1Of s) (ahbFor s (q .hclk) .hclk .0) (q .pclk1))
+    (apbFor (cap2Of s) (ahbFor s (q .hclk) .hclk .0) (q .pclk2))
+    o valid

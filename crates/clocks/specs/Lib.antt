@@ -3,4 +3,5 @@ pub mod Ratio
 pub mod Rows
 pub mod Derive
 pub mod Numbers
+pub mod Refusals
 pub mod Inner

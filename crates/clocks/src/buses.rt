@@ -11,7 +11,7 @@ use kinds::Hertz;
 use kinds::Request;
 ghost use mathlib.Core.Path.{_≡_};
 ghost use Prim.Native.Nat.{_*_, _<_, _≤_, min};
-ghost use Rattle.clocks.specs.Derive.{wantedOf, hpreOf, capOf, timclkOf, ahbOf, apbOf};
+ghost use Rattle.clocks.specs.Derive.{wantedOf, hpreOf, capOf, timclkOf, ahbFor, apbFor};
 ghost use Rattle.clocks.specs.Inner.{Sysclk, Hclk, hpreHeld};
 
 fn least(a: Hertz, b: Hertz) -> Hertz
@@ -47,7 +47,7 @@ fn hpre(s: Hertz, w: Hertz) -> Hpre
 
 pub(crate) fn ahb(s: Hertz, q: Request) -> Ahb
     requires { ⌜ Sysclk (s .0) ⌝ }
-    ensures { λ r. ⌜ r ≡ ahbOf (s .0) q ⌝ }
+    ensures { λ r. ⌜ r ≡ ahbFor (s .0) q ⌝ }
 {
     let row = hpre(s, wanted(s, s, q));
     let by = row.div;
@@ -74,7 +74,7 @@ fn timclk(p: Hertz, d: Divider) -> Hertz
 
 pub(crate) fn apb(most: Hertz, h: Hertz, q: Request) -> Apb
     requires { ⌜ Hclk (most .0) (h .0) q ⌝ }
-    ensures { λ r. ⌜ r ≡ apbOf (most .0) (h .0) q ⌝ }
+    ensures { λ r. ⌜ r ≡ apbFor (most .0) (h .0) q ⌝ }
 {
     let row = ppre_row(ratio_up(h, wanted(most, h, q)));
     let by = row.div;

@@ -17,8 +17,8 @@ use kinds::Requests;
 use kinds::Sources;
 ghost use mathlib.Core.Path.{_≡_};
 ghost use Rattle.kinds.specs.Table.{Checked, RequestsWithin};
-ghost use Rattle.clocks.specs.Derive.{clocksBy, configBy, grantedOf, settledOf, derivedOf};
-ghost use Rattle.clocks.specs.Inner.{Sysclk};
+ghost use Rattle.clocks.specs.Derive.{clocksBy, configBy, settledOf, derivedOf};
+ghost use Rattle.clocks.specs.Inner.{Sysclk, grantedOf};
 
 // The frozen clocks.
 pub struct Clocks {
