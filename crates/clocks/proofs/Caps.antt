@@ -1,14 +1,14 @@
 -- A PCLK is above 0 and within its cap, whatever HPRE divides SYSCLK by: by the few ratios next above 1 and 2, since the ratio grows.
 use Prim.Native.Nat.{ℕ, zero, suc, _+_, _*_, _/_, _%_, _^_, _≤_, _<_}
-use mathlib.Core.Path.{_≡_, refl, sym}
+use mathlib.Core.Path.{_≡_, refl}
 use mathlib.Core.Logic.{_⊎_, inl, inr}
 use mathlib.Core.Bool.{Bool, true, false, cond}
 use lib.Dec.{leb, lit≤}
 use lib.Ieee.{size}
 use lib.Pow.{pow-mono}
 use native.Mathlib.Omega.{arith}
-use native.Mathlib.Nat.{le-trans, le-of-eq, div-le-self, div-le-of-le-mul, div-one, le-div-iff-mul-le, mul-le-mul-right}
-use borrow.Author.Tests.{le-leb, lt-leb, leb-true, leb-false}
+use native.Mathlib.Nat.{le-trans, le-of-eq, div-le-self, div-le-of-le-mul, le-div-iff-mul-le, mul-le-mul-right}
+use borrow.Author.Tests.{le-leb, lt-leb, leb-true}
 use Rattle.kinds.specs.Table.{Between, AskedWithin}
 use Rattle.kinds.specs.declared.Request.{Request}
 use Rattle.kinds.specs.declared.Request.the-variants.{Absent as NoRequest, At as Asked}

@@ -49,7 +49,7 @@ module _ (f m n d : ℕ) (i : InputOk f) (s : SettingsOk m n d) {o : Outcome} (e
   pub output-is : {x : ℕ} → o ≡ Output x → x ≡ outOf (vcoOf f n m) d
   output-is h = let g = output-given f m n d i s in cc
 
-pub input-within : (h : HSEClock) → HseWithin h → InputOk (inputOf h)
+input-within : (h : HSEClock) → HseWithin h → InputOk (inputOf h)
 unfolding inputOf
 input-within NoHse w = record { low = lit≤ tt; high = lit≤ tt }
 input-within (Oscillator f) w = record { low = omega (arith, w .low); high = omega (arith, w .high) }
@@ -127,7 +127,7 @@ wanted-range most h (Asked f) k = let a = k .most-low in let b = k .most-high in
 pub ppre-pos : {x : Ppre} (r : ℕ) → x ≡ ppreHeld (ppreRow r) → 1 ≤ x .div .0
 ppre-pos r e = rw (ap (λ (z : Ppre). z .div .0) e) (power-low (ppre-power r))
 
-pub hertz : {a : Hertz} {x : ℕ} → a .0 ≡ x → a ≡ record { 0 = x }
+hertz : {a : Hertz} {x : ℕ} → a .0 ≡ x → a ≡ record { 0 = x }
 hertz e = ap (λ (x : ℕ). record { 0 = x }) e
 
 pub apb-is : (most h : ℕ) (q : Request) {w r : ℕ} {x : Ppre} {t : Hertz} → w ≡ wantedOf most h q → r ≡ ratioUp h w → x ≡ ppreHeld (ppreRow r) → t .0 ≡ timclkOf (h / x .div .0) (x .div .0)
@@ -203,7 +203,7 @@ base-low : (f : ℕ) → InputOk f → 1024 ≤ baseOf f
 unfolding baseOf
 base-low f i = omega (arith, i .low)
 
-pub sysclk-by : (c : CFGR) → sysclkBy (inputOf (c .sources .hse)) (c .pll) ≡ sysclkOf c
+sysclk-by : (c : CFGR) → sysclkBy (inputOf (c .sources .hse)) (c .pll) ≡ sysclkOf c
 unfolding sysclkBy sysclkOf pOutputOf
 sysclk-by c = refl
 

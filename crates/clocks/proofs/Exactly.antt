@@ -42,7 +42,7 @@ module _ (c j : ℕ) (x y : Float) (C : 0 < c) (C' : c < 2 ^ 28) (S : c % 16 ≡
   y-value : HasValue y false (2 ^ j) 1
   y-value = subst (λ (f : Float). HasValue f false (2 ^ j) 1) (sym ey) (subst (λ (z : ℕ). HasValue (ofInt binary32 (pos z)) false z 1) (one-mul (2 ^ j)) (whole-exact 1 j (lit≤ tt) (bit j J)))
 
-  pub quotient-exact : HasValue (div binary32 x y) false c (2 ^ j)
+  quotient-exact : HasValue (div binary32 x y) false c (2 ^ j)
   quotient-exact =
       let q = c / 16 in
       let k = 153 - j in

@@ -3,11 +3,11 @@ use mathlib.Core.Path.{_≡_, sym, ap, _∙_, subst}
 use mathlib.Core.Logic.{_⊎_, inl, inr}
 use mathlib.Core.Bool.{false}
 use Prim.Native.Nat.{ℕ, _+_, _-_, _*_, _/_, _%_, _^_, _≤_, _<_}
-use native.Mathlib.Nat.{le-trans, le-of-eq, le-of-lt, lt-of-le-of-lt, lt-of-lt-of-le, le-of-mul-le-mul-right, lt-of-mul-lt-mul-right, mul-one, one-mul, mul-comm, mul-assoc, mul-left-comm, mul-right-comm, mul-pos, mul-le-mul-right, mul-le-mul-left, mul-lt-mul-of-pos-right, mod-lt, eq-of-mul-eq-mul-right}
+use native.Mathlib.Nat.{le-trans, le-of-eq, le-of-lt, lt-of-le-of-lt, lt-of-lt-of-le, le-of-mul-le-mul-right, lt-of-mul-lt-mul-right, mul-one, mul-comm, mul-assoc, mul-right-comm, mul-pos, mul-le-mul-right, mul-lt-mul-of-pos-right, mod-lt, eq-of-mul-eq-mul-right}
 use native.Mathlib.Omega.{arith}
 use lib.IntN.{pos}
 use lib.Dec.{lit<, lit≤}
-use lib.Pow.{pow-add, pow-pos, pow-mono, shl-lt}
+use lib.Pow.{pow-pos, shl-lt}
 use lib.Ieee as Ieee
 use lib.Ieee.{Float, nan, inf, fin, binary32, size, down, round, div, ofInt}
 use lib.Ieee.Exact.{HasValue}
@@ -29,7 +29,7 @@ digits24-same n d n' d' D D' e =
     ∙ ap (λ (z : ℕ). z * 2 ^ k) (closest-same n (d * 2 ^ k) n' (d' * 2 ^ k) (mul-pos D (pow-pos k)) (mul-pos D' (pow-pos k)) (sym (mul-assoc n d' (2 ^ k)) ∙ ap (λ (z : ℕ). z * 2 ^ k) e ∙ mul-assoc n' d (2 ^ k)))
 
 -- ---- the unit: n / d in units 2 ^ t times smaller, for an n / d of 2 ^ 23 or more. It is `grid-scale` of `lib.Ieee.Scale`, whose unit is 2 ^ -149, with the fraction's two sides brought to that unit
-pub digits24-scale : (n d t : ℕ) → 0 < d → 2 ^ 23 * d ≤ n → digits24 (n * 2 ^ t) d ≡ digits24 n d * 2 ^ t
+digits24-scale : (n d t : ℕ) → 0 < d → 2 ^ 23 * d ≤ n → digits24 (n * 2 ^ t) d ≡ digits24 n d * 2 ^ t
 digits24-scale n d t D h =
     let du = d * U in
     let DU : 0 < du = mul-pos D U-pos in
@@ -44,7 +44,7 @@ no-rest x h = omega arith
 all-of : (x : ℕ) → x % 1 < 1 → x - x % 1 ≡ x
 all-of x h = omega arith
 
-pub small-same : (x : ℕ) → x < 2 ^ 24 → round24 x ≡ x
+small-same : (x : ℕ) → x < 2 ^ 24 → round24 x ≡ x
 small-same x h =
     let m : x % 1 < 1 = mod-lt x (lit< tt) in
     sym (round24-at x 0 (past-none x h)) ∙ sym (near-below x 1 (no-rest x m)) ∙ all-of x m

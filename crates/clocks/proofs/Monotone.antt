@@ -1,19 +1,17 @@
 -- The ratio grows with its numerator and falls with its denominator, and a number over itself is 1: each rounding keeps the order.
 use mathlib.Core.Path.{_≡_, refl, sym, ap, _∙_}
-use Prim.Native.Nat.{ℕ, _+_, _-_, _*_, _/_, _^_, _≤_, _<_}
-use native.Mathlib.Nat.{le-trans, le-of-eq, le-of-lt, lt-of-lt-of-le, lt-of-le-of-lt, le-of-mul-le-mul-right, mul-comm, mul-one, one-mul, mul-le-mul, mul-le-mul-right, mul-le-mul-left}
+use Prim.Native.Nat.{ℕ, _+_, _-_, _*_, _^_, _≤_, _<_}
+use native.Mathlib.Nat.{le-trans, le-of-eq, le-of-lt, lt-of-lt-of-le, lt-of-le-of-lt, le-of-mul-le-mul-right, mul-comm, mul-one, one-mul, mul-le-mul, mul-le-mul-right}
 use native.Mathlib.Omega.{arith}
 use lib.Dec.{lit<, lit≤}
-use lib.Pow.{shl-lt}
 use mathlib.Core.Bool.{false}
 use lib.Ieee.{binary32, round, size}
 use lib.Ieee.Exact.{HasValue}
 use lib.Ieee.Nearest.{div-mono}
 use lib.Ieee.Order.{round-mono}
 use lib.Ieee.Positive.{positive-of-value, values-of-le}
-use lib.Ieee.Scale.{round-val}
-use Rattle.clocks.specs.Ratio.{digits24, round24, quotient24, up, ratioUp}
-use Rattle.clocks.proofs.Rounded.{digits24-le, digits24-pos, round24-pos, round24-lt}
+use Rattle.clocks.specs.Ratio.{round24, quotient24, up, ratioUp}
+use Rattle.clocks.proofs.Rounded.{digits24-pos, round24-pos, round24-lt}
 use Rattle.clocks.proofs.Quotient.{U, U-pos, ofInt-is, quotient-rounds}
 use Rattle.clocks.proofs.Ieee.{round24-value, digits24-same}
 

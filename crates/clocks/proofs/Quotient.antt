@@ -85,7 +85,7 @@ pub U-pos : 0 < U
 U-pos = pow-pos 149
 
 -- a is below 2 ^ 29: a number below 2 ^ 28 can round up to 2 ^ 28
-pub quotient-le : (a b : ℕ) → a < 2 ^ 29 → quotient24 a b ≤ 2 ^ 29 * U
+quotient-le : (a b : ℕ) → a < 2 ^ 29 → quotient24 a b ≤ 2 ^ 29 * U
 quotient-le a b h = le-trans (digits24-le (a * U) b 154 (shl-lt 29 149 h)) (le-of-eq (pow-add 2 29 149))
 
 pub quotient-rounds : (a b : ℕ) → a < 2 ^ 29 → HasValue (round binary32 false a b) false (quotient24 a b) U
@@ -110,7 +110,7 @@ whole-of-scaled q k Q K = go (split-le 149 k)
         let w : q * 2 ^ k / U ≤ 2 ^ 24 = div-mono (q * 2 ^ k) U (2 ^ 24) 1 U-pos (lit< tt) (le-trans (le-of-eq (mul-one (q * 2 ^ k))) (mul-le-mul Q (pow-mono (le-of-lt l)))) in
         subst (λ (z : Float). HasValue z false (q * 2 ^ k / U) 1) (sym (ofInt-is (q * 2 ^ k / U))) (round-whole binary32 false (q * 2 ^ k / U) w)
 
-pub whole-part : (a b : ℕ) → a < 2 ^ 29 → HasValue (ofInt binary32 (pos (quotient24 a b / U))) false (quotient24 a b / U) 1
+whole-part : (a b : ℕ) → a < 2 ^ 29 → HasValue (ofInt binary32 (pos (quotient24 a b / U))) false (quotient24 a b / U) 1
 whole-part a b h = whole-of-scaled (closest (a * U) (b * 2 ^ extra (a * U) b)) (extra (a * U) b) (kept-le (a * U) b) (extra-le (a * U) b 154 (shl-lt 29 149 h))
 
 -- ---- `<` of two values that are not negative is that of the fractions that they equal
@@ -126,7 +126,7 @@ lt-of-values (fin false m e) (fin false n d) a c b c' p q h =
     lt→ltb (m * up e * down d) (n * up d * down e)
     (lt-of-not-le (λ (z : n * up d * down e ≤ m * up e * down d). not-le-of-lt h (transfer b a c' c (n * up d) (m * up e) (down d) (down e) (down-pos d) (down-pos e) (sym (q .1)) (sym (p .1)) z)))
 
-pub values-of-lt : (x y : Float) (a c b c' : ℕ) → 0 < c → 0 < c' → HasValue x false a c → HasValue y false b c' → T (lt x y) → a * c' < b * c
+values-of-lt : (x y : Float) (a c b c' : ℕ) → 0 < c → 0 < c' → HasValue x false a c → HasValue y false b c' → T (lt x y) → a * c' < b * c
 unfolding lt
 values-of-lt nan y a c b c' C C' p q h = absurd p
 values-of-lt (inf s) y a c b c' C C' p q h = absurd p
@@ -137,7 +137,7 @@ values-of-lt (fin false m e) (fin true n d) a c b c' C C' p q h = absurd (true�
 values-of-lt (fin false m e) (fin false n d) a c b c' C C' p q h =
     lt-of-not-le (λ (z : b * c ≤ a * c'). not-le-of-lt (ltb→lt (m * up e * down d) (n * up d * down e) h) (transfer (n * up d) (m * up e) (down d) (down e) b a c' c C' C (q .1) (p .1) z))
 
-pub values-of-not-lt : (x y : Float) (a c b c' : ℕ) → HasValue x false a c → HasValue y false b c' → T (not (lt x y)) → b * c ≤ a * c'
+values-of-not-lt : (x y : Float) (a c b c' : ℕ) → HasValue x false a c → HasValue y false b c' → T (not (lt x y)) → b * c ≤ a * c'
 values-of-not-lt x y a c b c' p q h = elim (split-le (b * c) (a * c')) [ inl l ↦ l | inr g ↦ absurd (T-not (lt x y) h (lt-of-values x y a c b c' p q g)) ]
 
 -- ---- the whole part, by `toUnsigned`
@@ -166,7 +166,7 @@ whole-is (fin false m e) g c w C p h =
 -- ---- What `ratio_up` computes with: a and b are the two numbers rounded, x and y their f32, t the quotient's whole part and z its f32
 module _ (n d a b : ℕ) (x y : Float) (N : 0 < n) (N' : n < 2 ^ 28) (D : 0 < d) (D' : d < 2 ^ 28) (ea : a ≡ round24 n) (eb : b ≡ round24 d)
     (ex : x ≡ ofInt binary32 (pos a)) (ey : y ≡ ofInt binary32 (pos b)) where
-  pub q-value : HasValue (div binary32 x y) false (quotient24 (round24 n) (round24 d)) U
+  q-value : HasValue (div binary32 x y) false (quotient24 (round24 n) (round24 d)) U
   q-value =
       quotient-value (round24 n) (round24 d) x y (round24-pos n N) (round24-lt n N') (round24-pos d D)
       (subst (λ (f : Float). HasValue f false (round24 n) 1) (sym (ex ∙ ap (λ (w : ℕ). ofInt binary32 (pos w)) ea)) (round24-exact n N'))
@@ -175,16 +175,16 @@ module _ (n d a b : ℕ) (x y : Float) (N : 0 < n) (N' : n < 2 ^ 28) (D : 0 < d)
   q-le : quotient24 (round24 n) (round24 d) < 2 ^ 64 * U
   q-le = lt-of-le-of-lt (quotient-le (round24 n) (round24 d) (round24-lt n N')) (lit< tt)
 
-  pub q-above : T (lt (fin true 1 (pos 0)) (div binary32 x y))
+  q-above : T (lt (fin true 1 (pos 0)) (div binary32 x y))
   q-above = above-minus-one (div binary32 x y) (quotient24 (round24 n) (round24 d)) U q-value
 
-  pub q-under : T (lt (div binary32 x y) (fin false 1 (pos 64)))
+  q-under : T (lt (div binary32 x y) (fin false 1 (pos 64)))
   q-under = lt-of-values (div binary32 x y) (fin false 1 (pos 64)) (quotient24 (round24 n) (round24 d)) U (2 ^ 64) 1 q-value (refl, refl) (lt-of-le-of-lt (le-of-eq (mul-one (quotient24 (round24 n) (round24 d)))) q-le)
 
   q-whole : toUnsigned 64 (div binary32 x y) ≡ quotient24 (round24 n) (round24 d) / U
   q-whole = whole-is (div binary32 x y) (quotient24 (round24 n) (round24 d)) U 64 U-pos q-value q-le
 
-  pub q-small : toUnsigned 64 (div binary32 x y) ≤ 536870912
+  q-small : toUnsigned 64 (div binary32 x y) ≤ 536870912
   q-small = subst (λ (w : ℕ). w ≤ 536870912) (sym q-whole)
       (div-mono (quotient24 (round24 n) (round24 d)) U 536870912 1 U-pos (lit< tt) (le-trans (le-of-eq (mul-one (quotient24 (round24 n) (round24 d)))) (quotient-le (round24 n) (round24 d) (round24-lt n N'))))
 
@@ -195,14 +195,14 @@ module _ (n d a b : ℕ) (x y : Float) (N : 0 < n) (N' : n < 2 ^ 28) (D : 0 < d)
     z-value : HasValue z false (quotient24 (round24 n) (round24 d) / U) 1
     z-value = subst (λ (f : Float). HasValue f false (quotient24 (round24 n) (round24 d) / U) 1) (sym (ez ∙ ap (λ (w : ℕ). ofInt binary32 (pos w)) t-is)) (whole-part (round24 n) (round24 d) (round24-lt n N'))
 
-    pub one-more : lt z (div binary32 x y) ≡ true → t + 1 ≡ ratioUp n d
+    one-more : lt z (div binary32 x y) ≡ true → t + 1 ≡ ratioUp n d
     unfolding ratioUp
     one-more e =
         let g = quotient24 (round24 n) (round24 d) in
         let l : g / U * U < g * 1 = values-of-lt z (div binary32 x y) (g / U) 1 g U (lit< tt) U-pos z-value q-value (subst T (sym e) tt) in
         ap (λ (w : ℕ). w + 1) t-is ∙ up-more g U U-pos (lt-of-lt-of-le l (le-of-eq (mul-one g)))
 
-    pub no-more : lt z (div binary32 x y) ≡ false → t ≡ ratioUp n d
+    no-more : lt z (div binary32 x y) ≡ false → t ≡ ratioUp n d
     unfolding ratioUp
     no-more e =
         let g = quotient24 (round24 n) (round24 d) in

@@ -71,15 +71,6 @@ is-gt a b h = go (compare a b) (cmp a b)
 
 -- ---- the multiple of u nearest to x
 module _ (x u : ℕ) where
-  pub closest-below : x % u * 2 < u → x / u ≡ closest x u
-  closest-below h = ap (λ (o : Ordering). nearest (x / u) o) (sym (is-lt (x % u * 2) u h))
-
-  pub closest-above : u < x % u * 2 → x / u + 1 ≡ closest x u
-  closest-above h = add-one (x / u) ∙ ap (λ (o : Ordering). nearest (x / u) o) (sym (is-gt (x % u * 2) u h))
-
-  pub closest-tie : x % u * 2 ≡ u → x / u + x / u % 2 ≡ closest x u
-  closest-tie h = ap (λ (o : Ordering). nearest (x / u) o) (sym (is-eq (x % u * 2) u h))
-
   pub near-below : x % u * 2 < u → x - x % u ≡ closest x u * u
   near-below h =
       let e = div-add-mod' x u in
@@ -127,9 +118,6 @@ pub round24-at : (x k : ℕ) → size x - 24 ≡ k → closest x (2 ^ k) * 2 ^ k
 unfolding round24
 round24-at x k e =
     sym (ap (λ (n : ℕ). closest x (1 * 2 ^ n) * 2 ^ n) (ap (λ (n : ℕ). size n - 24) (div-one x) ∙ e) ∙ ap (λ (n : ℕ). closest x n * 2 ^ k) (one-mul (2 ^ k)))
-
-pub unit-at : (x k : ℕ) → size x - 24 ≡ k → 2 ^ k ≡ 2 ^ extra x 1
-unit-at x k e = sym (ap (λ (n : ℕ). 2 ^ n) (ap (λ (n : ℕ). size n - 24) (div-one x) ∙ e))
 
 -- ---- a fraction rounded to 24 digits keeps 24, or is the next power of two
 pub kept-le : (n d : ℕ) → closest n (d * 2 ^ extra n d) ≤ 2 ^ 24

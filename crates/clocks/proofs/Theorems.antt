@@ -1,11 +1,11 @@
 -- What is promised of derive, for every configuration; each is read off one view of the answer and the lemmas of the other files.
 use Prim.Native.Nat.{ℕ, _-_, _/_, _≤_, _<_}
-use mathlib.Core.Path.{_≡_, refl, sym, _∙_, ap, subst}
+use mathlib.Core.Path.{_≡_, refl, subst}
 use mathlib.Core.Logic.{_⊎_, inl, inr, _↔_}
 use mathlib.Core.Bool.{Bool, true, false, cond}
 use lib.Dec.{leb, ltb, eqb, lit≤}
 use native.Mathlib.Omega.{arith}
-use borrow.Author.Tests.{eqb-true, eqb-false, ltb-true, ltb-false, leb-true, leb-false}
+use borrow.Author.Tests.{eqb-true, eqb-false, ltb-true, ltb-false, leb-true, leb-false, lt-leb}
 use Rattle.kinds.specs.Limits.{checkOf}
 use Rattle.kinds.specs.Table.{Between, Refused, hse, hclk, sysclk as sysclk-asked, pclk1, pclk2, pllm, plln, pllq, pllsain, pllsaiq, plli2sn, plli2sr, plli2sq, Least, none as none-least, least as least-least, Checked}
 use Rattle.kinds.proofs.Check.{check-told, told-check, check-least, check-le}
@@ -140,7 +140,7 @@ module _ (c : CFGR) (k : Checked c) (y : Sysclk (sysclkOf c)) where
       (hclk-facts s 90000000 108000000 _ q (c .requests .pclk2) (ahbFor s q) y refl refl (record { low = lit≤ tt; high = lit≤ tt }) (record { low = lit≤ tt; high = lit≤ tt }) (k .requests .pclk2))
 
 -- ---- wait states
--- up to 216 MHz the ladder is (SYSCLK − 1) / 30,000,000; from there on it stays 7
+-- up to 216 MHz the ladder is (SYSCLK − 1) / 30,000,000
 pub ladder-is-arithmetic : (s : ℕ) → s ≤ 216000000 → waitsOf s ≡ (s - 1) / 30000000
 unfolding waitsOf
 ladder-is-arithmetic s h =
@@ -156,6 +156,12 @@ ladder-is-arithmetic s h =
     at false false false false false true g p q r t u v w = omega (arith, leb-false s 150000000 u, leb-true s 180000000 v)
     at false false false false false false true p q r t u v w = omega (arith, leb-false s 180000000 v, leb-true s 210000000 w)
     at false false false false false false false p q r t u v w = omega (arith, leb-false s 210000000 w)
+
+-- and above it is as for 216 MHz
+pub ladder-above : (s : ℕ) → 216000000 ≤ s → waitsOf s ≡ waitsOf 216000000
+unfolding waitsOf
+ladder-above s h =
+    rw (lt-leb s 30000000 (omega arith), lt-leb s 60000000 (omega arith), lt-leb s 90000000 (omega arith), lt-leb s 120000000 (omega arith), lt-leb s 150000000 (omega arith), lt-leb s 180000000 (omega arith), lt-leb s 210000000 (omega arith))
 
 -- ---- what it answers
 module _ (c : CFGR) (x : Clocks) (y : InternalRCCConfig) (e : derivedOf c ≡ At x y) where

@@ -9,7 +9,6 @@ use Rattle.kinds.specs.declared.CFGR.{CFGR}
 use Rattle.kinds.specs.declared.Pll.{Pll}
 use Rattle.kinds.specs.declared.Sai.{Sai}
 use Rattle.kinds.specs.declared.Sources.{Sources}
-use Rattle.kinds.specs.declared.Requests.{Requests}
 use Rattle.kinds.specs.declared.Request.{Request}
 use Rattle.kinds.specs.declared.Request.the-variants.{Absent as NoRequest, At as Asked}
 use Rattle.kinds.specs.declared.Choice48.{Choice48}

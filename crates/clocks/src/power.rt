@@ -1,8 +1,7 @@
 // What a SYSCLK asks of flash and power: wait states, voltage scale, over-drive.
 use kinds::Hertz;
 ghost use mathlib.Core.Path.{_≡_};
-ghost use lib.Dec.{ltb};
-ghost use Rattle.clocks.specs.Derive.{waitsOf, scaleOf};
+ghost use Rattle.clocks.specs.Derive.{waitsOf, scaleOf, overdriveOf};
 
 pub(crate) fn flash_waitstates(s: Hertz) -> u8
     ensures { λ r. ⌜ r ≡ waitsOf (s .0) ⌝ }
@@ -39,7 +38,7 @@ pub(crate) fn vos_scale(s: Hertz) -> u8
 }
 
 pub(crate) fn overdrive(s: Hertz) -> bool
-    ensures { λ r. ⌜ r ≡ ltb 180000000 (s .0) ⌝ }
+    ensures { λ r. ⌜ r ≡ overdriveOf (s .0) ⌝ }
 {
     180000000 < s.0
 }
