@@ -14,7 +14,8 @@ use Rattle.pll.specs.declared.Window.the-variants.{Absent}
 use Rattle.pll.specs.declared.Sought.{Sought}
 use Rattle.pll.specs.declared.Found.{Found}
 use Rattle.pll.specs.declared.Found.the-variants.{Pair}
-use Rattle.configure.specs.Configure.{pOutputOf, offOf, wantedIn, pWindowIn, qWindowIn, baseIn}
+use Rattle.pll.specs.Outputs.{pOutputOf}
+use Rattle.configure.specs.Configure.{offOf, wantedIn, pWindowIn, qWindowIn, baseIn}
 use Rattle.configure.specs.Ways.{searchIn, Seeks, gives, Ways, refused, unneeded, fitting, missed, found}
 use Rattle.configure.specs.declared.Configured.{Configured}
 use Rattle.configure.specs.declared.Configured.the-variants.{Refused, Ready}

@@ -9,16 +9,12 @@ use Rattle.kinds.specs.Config.{inputOf}
 use Rattle.kinds.specs.Codes.{pDividerOf}
 use Rattle.kinds.specs.Limits.{checkOf}
 use Rattle.kinds.specs.Setters.{putPll}
-use Rattle.kinds.specs.Table.{Between, HseWithin, AskedWithin, Checked}
+use Rattle.kinds.specs.Table.{Between, AskedWithin, Checked}
 use Rattle.kinds.specs.declared.CFGR.{CFGR}
 use Rattle.kinds.specs.declared.Pll.{Pll}
-use Rattle.kinds.specs.declared.PLLP.{PLLP}
-use Rattle.kinds.specs.declared.PLLP.the-variants.{Div2, Div4, Div6, Div8}
 use Rattle.kinds.specs.declared.Divider.{Divider}
 use Rattle.kinds.specs.declared.Factor.{Factor}
 use Rattle.kinds.specs.declared.Hertz.{Hertz}
-use Rattle.kinds.specs.declared.HSEClock.{HSEClock}
-use Rattle.kinds.specs.declared.HSEClock.the-variants.{Absent as NoHse, Oscillator, Bypass}
 use Rattle.kinds.specs.declared.Request.{Request}
 use Rattle.kinds.specs.declared.Request.the-variants.{Absent as NoRequest, At as Asks}
 use Rattle.pll.specs.Fixed.{outputOf}
@@ -31,27 +27,17 @@ use Rattle.pll.specs.declared.Sought.{Sought}
 use Rattle.pll.specs.declared.Found.{Found}
 use Rattle.pll.specs.declared.Found.the-variants.{Pair}
 use Rattle.pll.proofs.Theorems.{output-given}
-use Rattle.configure.specs.Configure.{baseOf, wantedOf, pWindowOf, qWindowOf, pOutputOf, withP, withQ, withMN, offOf, takenOf, keptOf, settledOf, baseIn, wantedIn, pWindowIn, qWindowIn, fitsIn, chosenOf, configuredOf}
+use Rattle.pll.proofs.Settings.{input-within, p-settings}
+use Rattle.pll.specs.Outputs.{baseOf, pOutputOf}
+use Rattle.configure.specs.Configure.{wantedOf, pWindowOf, qWindowOf, withP, withQ, withMN, offOf, takenOf, keptOf, settledOf, baseIn, wantedIn, pWindowIn, qWindowIn, fitsIn, chosenOf, configuredOf}
 use Rattle.configure.specs.declared.Configured.{Configured}
 use Rattle.configure.specs.declared.Configured.the-variants.{Refused, Ready}
 
 -- ---- ranges that a checked configuration has
-pub input-range : (h : HSEClock) → HseWithin h → Between 1000000 50000000 (inputOf h)
-unfolding inputOf
-input-range NoHse w = record { low = omega arith; high = omega arith }
-input-range (Oscillator f) w = record { low = omega (arith, w .low); high = omega (arith, w .high) }
-input-range (Bypass f) w = w
-
-pub p-range : (p : PLLP) → Between 2 15 (pDividerOf p)
-p-range Div2 = record { low = omega arith; high = omega arith }
-p-range Div4 = record { low = omega arith; high = omega arith }
-p-range Div6 = record { low = omega arith; high = omega arith }
-p-range Div8 = record { low = omega arith; high = omega arith }
-
 pub base-range : (c : CFGR) → Checked c → Between 1000000 50000000 (baseOf (inputOf (c .sources .hse)))
 unfolding baseOf
 base-range c k =
-    let i = input-range (c .sources .hse) (k .hse) in
+    let i = input-within (c .sources .hse) (k .hse) in
     record { low = omega (arith, i .low); high = omega (arith, i .high) }
 
 pub wanted-range : (q : Request) (b : ℕ) → AskedWithin 12500000 216000000 q → Between 1000000 50000000 b → Between 1 216000000 (wantedOf q b)
@@ -68,10 +54,7 @@ wanted-in c k ew eb ef =
 pub p-output-is : (c : CFGR) → Checked c → {o : Outcome} {f d : ℕ} → o ≡ outputOf f (c .pll .m .0) (c .pll .n .0) d → f ≡ inputOf (c .sources .hse) → d ≡ pDividerOf (c .pll .p) → o ≡ At (pOutputOf c)
 unfolding pOutputOf
 p-output-is c k e a b =
-    let p = p-range (c .pll .p) in
-    e ∙ rw (a, b)
-    (output-given _ _ _ _ (input-range (c .sources .hse) (k .hse))
-    (record { m-low = k .pll .m .low; m-high = k .pll .m .high; n-low = k .pll .n .low; n-high = k .pll .n .high; d-low = p .low; d-high = p .high }))
+    e ∙ rw (a, b) (output-given _ _ _ _ (input-within (c .sources .hse) (k .hse)) (p-settings _ _ (c .pll .p) (k .pll .m) (k .pll .n) refl))
 
 -- so its output is never refused, and the number that it has is that output
 pub p-output-hertz : {o : Outcome} {x y : ℕ} → o ≡ At x → o ≡ At y → y ≡ x

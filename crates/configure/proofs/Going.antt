@@ -16,7 +16,8 @@ use Rattle.pll.specs.declared.Window.the-variants.{Absent, Within}
 use Rattle.pll.specs.declared.Found.{Found}
 use Rattle.pll.specs.declared.Found.the-variants.{Pair, BadInput, Nothing}
 use Rattle.pll.proofs.Theorems.{answer-is-right}
-use Rattle.configure.specs.Configure.{pOutputOf, takenOf, keptOf, settledOf, baseIn, wantedIn, pWindowIn, qWindowIn, fitsIn, chosenOf, configuredOf}
+use Rattle.pll.specs.Outputs.{pOutputOf}
+use Rattle.configure.specs.Configure.{takenOf, keptOf, settledOf, baseIn, wantedIn, pWindowIn, qWindowIn, fitsIn, chosenOf, configuredOf}
 use Rattle.configure.specs.Ways.{searchIn, Seeks, Ways, refused, unneeded, fitting, missed, found}
 use Rattle.configure.specs.declared.Configured.the-variants.{Refused}
 use Rattle.configure.proofs.Configuring.{base-range}

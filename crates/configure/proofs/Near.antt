@@ -18,7 +18,8 @@ use Rattle.pll.specs.declared.Window.the-variants.{Absent, Within}
 use Rattle.pll.specs.declared.Sought.{Sought}
 use Rattle.pll.specs.declared.Sought.the-variants.{Unasked, By}
 use Rattle.pll.specs.declared.Found.the-variants.{Pair}
-use Rattle.configure.specs.Configure.{pOutputOf, pllpOf, pWindowOf, withP, withQ, withMN, baseIn, wantedIn, pWindowIn}
+use Rattle.pll.specs.Outputs.{pOutputOf}
+use Rattle.configure.specs.Configure.{pllpOf, pWindowOf, withP, withQ, withMN, baseIn, wantedIn, pWindowIn}
 use Rattle.configure.specs.Ways.{Near, searchIn, gives}
 use Rattle.configure.proofs.Taking.{best, vco-found, taken-m, taken-n}
 

@@ -23,9 +23,10 @@ use Rattle.pll.specs.declared.Sought.the-variants.{Unasked, By}
 use Rattle.pll.specs.declared.Found.the-variants.{Pair}
 use Rattle.pll.proofs.Reciprocal.{recip-le, mul-le}
 use Rattle.pll.proofs.Theorems.{pair-is-best}
-use Rattle.configure.specs.Configure.{baseOf, pOutputOf, withP, withQ, withMN, baseIn, wantedIn, pWindowIn, qWindowIn}
+use Rattle.pll.specs.Outputs.{baseOf, pOutputOf}
+use Rattle.configure.specs.Configure.{withP, withQ, withMN, baseIn, wantedIn, pWindowIn, qWindowIn}
 use Rattle.configure.specs.Ways.{searchIn, gives}
-use Rattle.configure.proofs.Configuring.{p-range}
+use Rattle.pll.proofs.Settings.{p-range}
 
 -- ---- what is as before, and what is not
 module _ (l : Pll) (m : Divider) (n : Factor) where

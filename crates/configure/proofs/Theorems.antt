@@ -8,13 +8,13 @@ use Rattle.kinds.specs.Limits.{checkOf}
 use Rattle.kinds.specs.Table.{Between, Checked}
 use Rattle.kinds.proofs.Check.{told-check, check-le}
 use Rattle.kinds.specs.declared.CFGR.{CFGR}
-use Rattle.pll.specs.Numbers.{passesOf as searchPasses}
 use Rattle.pll.specs.Good.{GoodPair, Answer}
 use Rattle.pll.specs.declared.Window.the-variants.{Absent}
 use Rattle.pll.specs.declared.Found.{Found}
 use Rattle.pll.specs.declared.Found.the-variants.{Nothing}
 use Rattle.pll.proofs.Theorems.{answer-is-right}
-use Rattle.configure.specs.Configure.{pOutputOf, offOf, baseIn, wantedIn, pWindowIn, qWindowIn, configuredOf, numberOf, passesOf}
+use Rattle.pll.specs.Outputs.{pOutputOf}
+use Rattle.configure.specs.Configure.{offOf, baseIn, wantedIn, pWindowIn, qWindowIn, configuredOf, numberOf, passesOf}
 use Rattle.configure.specs.Ways.{searchIn, Seeks, gives, Ways, refused, unneeded, fitting, missed, found, Near, Keeps}
 use Rattle.configure.specs.declared.Configured.{Configured}
 use Rattle.configure.specs.declared.Configured.the-variants.{Refused, Ready}

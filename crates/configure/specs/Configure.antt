@@ -1,9 +1,8 @@
 -- Document 01, "Whether the PLL is used".
-use Prim.Native.Nat.{ℕ, _+_, _-_, _*_, _/_}
+use Prim.Native.Nat.{ℕ, _+_, _-_}
 use mathlib.Core.Bool.{Bool, true, false, cond}
 use lib.Dec.{eqb}
 use Rattle.kinds.specs.Config.{inputOf}
-use Rattle.kinds.specs.Codes.{pDividerOf}
 use Rattle.kinds.specs.Limits.{checkOf}
 use Rattle.kinds.specs.Setters.{putPll}
 use Rattle.kinds.specs.declared.CFGR.{CFGR}
@@ -16,7 +15,7 @@ use Rattle.kinds.specs.declared.Request.{Request}
 use Rattle.kinds.specs.declared.Request.the-variants.{Absent as NoRequest, At}
 use Rattle.kinds.specs.declared.Choice48.{Choice48}
 use Rattle.kinds.specs.declared.Choice48.the-variants.{Absent as NoChoice, Pllq, Pllsai}
-use Rattle.pll.specs.Fixed.{vcoOf, outOf}
+use Rattle.pll.specs.Outputs.{baseOf, pOutputOf}
 use Rattle.pll.specs.Walk.{searchOf}
 use Rattle.pll.specs.declared.Window.{Window}
 use Rattle.pll.specs.declared.Window.the-variants.{Absent, Within}
@@ -26,10 +25,6 @@ use Rattle.pll.specs.declared.Found.{Found}
 use Rattle.pll.specs.declared.Found.the-variants.{Pair, BadInput, Nothing}
 use Rattle.configure.specs.declared.Configured.{Configured}
 use Rattle.configure.specs.declared.Configured.the-variants.{Refused, Ready}
-
--- 16 × b, with b = floor(f/16)
-unfoldable pub baseOf : ℕ → ℕ
-baseOf f = 16 * (f / 16)
 
 -- SYSCLK wanted is the request or, without one, 16 × b
 abbrev pub wantedOf : Request → ℕ → ℕ
@@ -45,10 +40,6 @@ abbrev pub qWindowOf : Choice48 → Window
 qWindowOf NoChoice = Absent
 qWindowOf Pllq = Within (record { 0 = 47880000 }) (record { 0 = 48120000 })
 qWindowOf Pllsai = Absent
-
--- what the present M, N, P derive
-unfoldable pub pOutputOf : CFGR → ℕ
-pOutputOf c = outOf (vcoOf (inputOf (c .sources .hse)) (c .pll .n .0) (c .pll .m .0)) (pDividerOf (c .pll .p))
 
 abbrev pub pllpOf : ℕ → PLLP
 pllpOf d = cond (eqb d 2) Div2 (cond (eqb d 4) Div4 (cond (eqb d 6) Div6 Div8))

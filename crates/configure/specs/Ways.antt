@@ -13,7 +13,8 @@ use Rattle.pll.specs.declared.Window.the-variants.{Absent}
 use Rattle.pll.specs.declared.Sought.{Sought}
 use Rattle.pll.specs.declared.Found.{Found}
 use Rattle.pll.specs.declared.Found.the-variants.{Pair, Nothing}
-use Rattle.configure.specs.Configure.{pOutputOf, withP, withQ, withMN, offOf, baseIn, wantedIn, pWindowIn, qWindowIn}
+use Rattle.pll.specs.Outputs.{pOutputOf}
+use Rattle.configure.specs.Configure.{withP, withQ, withMN, offOf, baseIn, wantedIn, pWindowIn, qWindowIn}
 use Rattle.configure.specs.declared.Configured.{Configured}
 use Rattle.configure.specs.declared.Configured.the-variants.{Refused, Ready}
 

@@ -17,7 +17,8 @@ use windows::wanted_of;
 ghost use mathlib.Core.Path.{_≡_};
 ghost use lib.Dec.{eqb};
 ghost use Rattle.kinds.specs.Table.{Checked};
-ghost use Rattle.configure.specs.Configure.{pOutputOf, keptOf, settledOf, chosenOf, configuredOf};
+ghost use Rattle.pll.specs.Outputs.{pOutputOf};
+ghost use Rattle.configure.specs.Configure.{keptOf, settledOf, chosenOf, configuredOf};
 
 // A refusal of 1 to 7, or the configuration as planned; with the passes of the search, 0 where none ran.
 pub enum Configured {

@@ -14,7 +14,8 @@ use pll::Sought;
 ghost use mathlib.Core.Path.{_≡_};
 ghost use lib.Dec.{eqb};
 ghost use Rattle.kinds.specs.Table.{Checked};
-ghost use Rattle.configure.specs.Configure.{pOutputOf, pllpOf, withP, withQ, withMN, offOf, takenOf};
+ghost use Rattle.pll.specs.Outputs.{pOutputOf};
+ghost use Rattle.configure.specs.Configure.{pllpOf, withP, withQ, withMN, offOf, takenOf};
 
 // The P output of the present settings.
 fn p_output(cfgr: CFGR) -> u64

@@ -5,7 +5,8 @@ use kinds::Request;
 use pll::Window;
 ghost use mathlib.Core.Path.{_≡_};
 ghost use Prim.Native.Nat.{_≤_};
-ghost use Rattle.configure.specs.Configure.{baseOf, wantedOf, pWindowOf, qWindowOf};
+ghost use Rattle.pll.specs.Outputs.{baseOf};
+ghost use Rattle.configure.specs.Configure.{wantedOf, pWindowOf, qWindowOf};
 
 // The input as planning uses it: cut to a multiple of 16.
 pub(crate) fn base_of(input: Hertz) -> Hertz

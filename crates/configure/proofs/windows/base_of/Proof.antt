@@ -1,5 +1,5 @@
 -- `base_of` meets its contract: by arithmetic.
-use Rattle.configure.specs.Configure.{baseOf}
+use Rattle.pll.specs.Outputs.{baseOf}
 use native.Mathlib.Omega.{arith}
 use borrow.Author.Needs.{needs}
 use Rattle.configure.proofs.windows.base_of.Statement.{statement}
