@@ -8,6 +8,7 @@ use Rattle.kinds.specs.Limits.{checkOf}
 use Rattle.kinds.specs.Table.{Between, Checked}
 use Rattle.kinds.proofs.Check.{told-check, check-le}
 use Rattle.kinds.specs.declared.CFGR.{CFGR}
+use Rattle.pll.specs.Numbers.{passesOf as searchPasses}
 use Rattle.pll.specs.Good.{GoodPair, Answer}
 use Rattle.pll.specs.declared.Window.the-variants.{Absent}
 use Rattle.pll.specs.declared.Found.{Found}
