@@ -9,14 +9,14 @@ use Rattle.kinds.specs.Table.{Between, Checked}
 use Rattle.kinds.proofs.Check.{told-check, check-le}
 use Rattle.kinds.specs.declared.CFGR.{CFGR}
 use Rattle.pll.specs.Numbers.{passesOf as searchPasses}
-use Rattle.pll.specs.Good.{GoodPair, Answer}
+use Rattle.pll.specs.Good.{Answer}
 use Rattle.pll.specs.declared.Window.the-variants.{Absent}
 use Rattle.pll.specs.declared.Found.{Found}
 use Rattle.pll.specs.declared.Found.the-variants.{Nothing}
 use Rattle.pll.proofs.Theorems.{answer-is-right}
 use Rattle.pll.specs.Outputs.{pOutputOf}
 use Rattle.configure.specs.Configure.{offOf, baseIn, wantedIn, pWindowIn, qWindowIn, configuredOf, numberOf, passesOf}
-use Rattle.configure.specs.Ways.{searchIn, Seeks, gives, Ways, refused, unneeded, fitting, missed, found, Near, Keeps}
+use Rattle.configure.specs.Ways.{searchIn, Seeks, gives, Ways, refused, unneeded, fitting, missed, found, NoneGood, Plans, Near, Keeps}
 use Rattle.configure.specs.declared.Configured.{Configured}
 use Rattle.configure.specs.declared.Configured.the-variants.{Refused, Ready}
 use Rattle.configure.proofs.Configuring.{wanted-range, base-range}
@@ -24,10 +24,6 @@ use Rattle.configure.proofs.Going.{configured-way, no-window}
 use Rattle.configure.proofs.Taking.{best, found-checked, found-output, taken-48}
 use Rattle.configure.proofs.Near.{p-window-is, found-near}
 use Rattle.configure.proofs.Again.{off-again, same-again, found-again}
-
--- no pair is good for the search that a configuration asks for
-abbrev pub NoneGood : CFGR → Type 0
-NoneGood c = (M N : ℕ) → GoodPair (baseIn c) (pWindowIn c) (qWindowIn c) M N → ⊥
 
 none-good : (c : CFGR) {k : ℕ} → searchIn c ≡ Nothing k → NoneGood c
 none-good c e = (subst (λ (z : Found). Answer (baseIn c) (pWindowIn c) (qWindowIn c) z) e (answer-is-right (baseIn c) (pWindowIn c) (qWindowIn c))) .1
@@ -92,9 +88,6 @@ module _ (c : CFGR) where
       cases (Ready d k) (found s a) = absurd (w s)
 
 -- ---- a configuration as planned
-abbrev pub Plans : CFGR → CFGR → ℕ → Type 0
-Plans c d k = configuredOf c ≡ Ready d k
-
 ready-way : (c d : CFGR) (k : ℕ) → Plans c d k → Ways c (Ready d k)
 ready-way c d k e = subst (λ (r : Configured). Ways c r) e (configured-way c)
 

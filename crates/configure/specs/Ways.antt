@@ -8,13 +8,13 @@ use Rattle.kinds.specs.declared.CFGR.{CFGR}
 use Rattle.kinds.specs.declared.Divider.{Divider}
 use Rattle.kinds.specs.declared.Factor.{Factor}
 use Rattle.pll.specs.Walk.{searchOf}
-use Rattle.pll.specs.Good.{SomeWindow}
+use Rattle.pll.specs.Good.{SomeWindow, GoodPair}
 use Rattle.pll.specs.declared.Window.the-variants.{Absent}
 use Rattle.pll.specs.declared.Sought.{Sought}
 use Rattle.pll.specs.declared.Found.{Found}
 use Rattle.pll.specs.declared.Found.the-variants.{Pair, Nothing}
 use Rattle.pll.specs.Outputs.{pOutputOf}
-use Rattle.configure.specs.Configure.{withP, withQ, withMN, offOf, baseIn, wantedIn, pWindowIn, qWindowIn}
+use Rattle.configure.specs.Configure.{withP, withQ, withMN, offOf, baseIn, wantedIn, pWindowIn, qWindowIn, configuredOf}
 use Rattle.configure.specs.declared.Configured.{Configured}
 use Rattle.configure.specs.declared.Configured.the-variants.{Refused, Ready}
 
@@ -28,6 +28,10 @@ pub record Seeks (c : CFGR) : Type 0 where
   pub sought : SomeWindow (pWindowIn c) (qWindowIn c)
   pub unfit : qWindowIn c ≡ Absent → wantedIn c ≡ pOutputOf c → ⊥
 
+-- it has no answer: no pair is good
+abbrev pub NoneGood : CFGR → Type 0
+NoneGood c = (M N : ℕ) → GoodPair (baseIn c) (pWindowIn c) (qWindowIn c) M N → ⊥
+
 -- the configuration that an answer of the search gives
 abbrev pub gives : CFGR → Divider → Factor → Sought → Sought → CFGR
 gives c m n x y = putPll c (withQ (withP (withMN (c .pll) m n) x) y)
@@ -38,6 +42,10 @@ pub data Ways (c : CFGR) : Configured → Type 0 where
   fitting : Checked c → SomeWindow (pWindowIn c) (qWindowIn c) → qWindowIn c ≡ Absent → wantedIn c ≡ pOutputOf c → Ways c (Ready c 0)
   missed : {k : ℕ} → Seeks c → searchIn c ≡ Nothing k → Ways c (Refused 7 k)
   found : {m : Divider} {n : Factor} {x y : Sought} {k : ℕ} → Seeks c → searchIn c ≡ Pair m n x y k → Ways c (Ready (gives c m n x y) k)
+
+-- d is c as planned, after k passes
+abbrev pub Plans : CFGR → CFGR → ℕ → Type 0
+Plans c d k = configuredOf c ≡ Ready d k
 
 -- SYSCLK s beside a wanted value w: at most 1 Hz above it and 15 Hz below it
 pub record Near (w s : ℕ) : Type 0 where

@@ -7,7 +7,7 @@ use lib.Dec.{leb}
 use native.Mathlib.Omega.{arith}
 use borrow.Author.Tests.{leb-true, leb-false, ne-eqb}
 use Rattle.kinds.specs.Limits.{outsideOf, limited, firstOf, hseRefusal, askedRefusal, requestsRefusal, checkOf}
-use Rattle.kinds.specs.Table.{Between, Outside, HseWithin, HseOutside, AskedWithin, AskedOutside, Refused, hse, hclk, sysclk, pclk1, pclk2, pllm, plln, pllq, pllsain, pllsaiq, plli2sn, plli2sr, plli2sq, Least, none, least, Checked}
+use Rattle.kinds.specs.Table.{Between, Outside, HseWithin, HseOutside, AskedWithin, AskedOutside, Refused, hse, hclk, sysclk, pclk1, pclk2, pllm, plln, pllq, pllsain, pllsaiq, plli2sn, plli2sr, plli2sq, LeastOf, Least, none, least, Checked}
 use Rattle.kinds.specs.declared.CFGR.{CFGR}
 use Rattle.kinds.specs.declared.HSEClock.{HSEClock}
 use Rattle.kinds.specs.declared.HSEClock.the-variants.{Absent as NoHse, Oscillator, Bypass}
@@ -16,11 +16,11 @@ use Rattle.kinds.specs.declared.Request.the-variants.{Absent as NoReques
 
 -- ---- one limit
 -- what a test of a limit tells: P is that it is kept, Q that it is broken, and k its number
-data Told (P Q : Type 0) (k : ℕ) : ℕ → Type 0 where
+pub data Told (P Q : Type 0) (k : ℕ) : ℕ → Type 0 where
   inside : P → (Q → ⊥) → Told P Q k 0
   broken : Q → (P → ⊥) → Told P Q k k
 
-outside-told : (lo hi k x : ℕ) → Told (Between lo hi x) (Outside lo hi x) k (outsideOf lo hi k x)
+pub outside-told : (lo hi k x : ℕ) → Told (Between lo hi x) (Outside lo hi x) k (outsideOf lo hi k x)
 unfolding outsideOf
 outside-told lo hi k x = at (leb lo x) (leb x hi) refl refl
   where

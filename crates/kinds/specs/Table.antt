@@ -55,10 +55,13 @@ pub data Refused (c : CFGR) : ℕ → Type 0 where
   plli2sr : Outside 2 7 (c .i2s .r .0) → Refused c 6
   plli2sq : Outside 2 15 (c .i2s .q .0) → Refused c 6
 
--- n is the least number given, or 0 where none is
-pub data Least (c : CFGR) : ℕ → Type 0 where
-  none : ((n : ℕ) → Refused c n → ⊥) → Least c 0
-  least : {n : ℕ} → Refused c n → ((k : ℕ) → Refused c k → n ≤ k) → Least c n
+-- n is the least number that is given, or 0 where none is
+pub data LeastOf (Given : ℕ → Type 0) : ℕ → Type 0 where
+  none : ((n : ℕ) → Given n → ⊥) → LeastOf Given 0
+  least : {n : ℕ} → Given n → ((k : ℕ) → Given k → n ≤ k) → LeastOf Given n
+
+abbrev pub Least : CFGR → ℕ → Type 0
+Least c = LeastOf (Refused c)
 
 -- every limit kept, by groups
 pub record RequestsWithin (q : Requests) : Type 0 where
