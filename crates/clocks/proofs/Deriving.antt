@@ -2,24 +2,20 @@
 use Prim.Native.Nat.{ℕ, _+_, _*_, _/_, _%_, _≤_, _<_}
 use mathlib.Core.Path.{_≡_, refl, sym, _∙_, ap}
 use mathlib.Core.Bool.{Bool, true, false, cond}
-use lib.Dec.{leb, lit≤}
+use lib.Dec.{leb}
 use native.Mathlib.Omega.{arith}
 use native.Mathlib.Nat.{le-div-iff-mul-le, div-le-self, mul-le-mul, le-trans}
 use borrow.Author.Tests.{lt-ltb, le-ltb, eq-eqb, ne-eqb}
 use Rattle.kinds.specs.Config.{inputOf}
 use Rattle.kinds.specs.Codes.{pDividerOf}
 use Rattle.kinds.specs.Limits.{checkOf}
-use Rattle.kinds.specs.Table.{Between, HseWithin, AskedWithin, Checked}
+use Rattle.kinds.specs.Table.{Between, AskedWithin, Checked}
 use Rattle.kinds.specs.declared.Hertz.{Hertz}
 use Rattle.kinds.specs.declared.CFGR.{CFGR}
 use Rattle.kinds.specs.declared.Pll.{Pll}
 use Rattle.kinds.specs.declared.Sai.{Sai}
 use Rattle.kinds.specs.declared.Sources.{Sources}
 use Rattle.kinds.specs.declared.Requests.{Requests}
-use Rattle.kinds.specs.declared.PLLP.{PLLP}
-use Rattle.kinds.specs.declared.PLLP.the-variants.{Div2, Div4, Div6, Div8}
-use Rattle.kinds.specs.declared.HSEClock.{HSEClock}
-use Rattle.kinds.specs.declared.HSEClock.the-variants.{Absent as NoHse, Oscillator, Bypass}
 use Rattle.kinds.specs.declared.Request.{Request}
 use Rattle.kinds.specs.declared.Request.the-variants.{Absent as NoRequest, At as Asked}
 use Rattle.kinds.specs.declared.Choice48.the-variants.{Absent as NoChoice, Pllq, Pllsai}
@@ -27,9 +23,11 @@ use Rattle.pll.specs.Fixed.{InputOk, SettingsOk, inside, recipOf, vcoOf, outOf,
 use Rattle.pll.specs.declared.Outcome.{Outcome}
 use Rattle.pll.specs.declared.Outcome.the-variants.{Refused as NoOutput, At as Output}
 use Rattle.pll.proofs.Theorems.{output-given}
+use Rattle.pll.proofs.Settings.{input-within, p-range}
 use Rattle.clocks.specs.Ratio.{ratioUp}
 use Rattle.clocks.specs.Rows.{Row, hpreRow, ppreRow}
-use Rattle.clocks.specs.Derive.{baseOf, pOutputOf, sysclkOf, wantedOf, hpreOf, ahbFor, capOf, timclkOf, apbFor, validOf, cap1Of, cap2Of, clocksBy, configBy, clocksOf, configOf, ahbOf, apb1Of, apb2Of, settledOf, derivedOf}
+use Rattle.pll.specs.Outputs.{baseOf, pOutputOf}
+use Rattle.clocks.specs.Derive.{sysclkOf, wantedOf, hpreOf, ahbFor, capOf, timclkOf, apbFor, validOf, cap1Of, cap2Of, clocksBy, configBy, clocksOf, configOf, ahbOf, apb1Of, apb2Of, settledOf, derivedOf}
 use Rattle.clocks.specs.Inner.{grantedOf, hpreHeld, ppreHeld, wholeOf, Sysclk, Hclk, sysclkBy}
 use Rattle.clocks.specs.declared.Hpre.{Hpre}
 use Rattle.clocks.specs.declared.Ppre.{Ppre}
@@ -48,24 +46,6 @@ module _ (f m n d : ℕ) (i : InputOk f) (s : SettingsOk m n d) {o : Outcome} (e
 
   pub output-is : {x : ℕ} → o ≡ Output x → x ≡ outOf (vcoOf f n m) d
   output-is h = let g = output-given f m n d i s in cc
-
-input-within : (h : HSEClock) → HseWithin h → InputOk (inputOf h)
-unfolding inputOf
-input-within NoHse w = record { low = lit≤ tt; high = lit≤ tt }
-input-within (Oscillator f) w = record { low = omega (arith, w .low); high = omega (arith, w .high) }
-input-within (Bypass f) w = record { low = omega (arith, w .low); high = omega (arith, w .high) }
-
-p-range : (p : PLLP) → Between 2 8 (pDividerOf p)
-p-range Div2 = record { low = lit≤ tt; high = lit≤ tt }
-p-range Div4 = record { low = lit≤ tt; high = lit≤ tt }
-p-range Div6 = record { low = lit≤ tt; high = lit≤ tt }
-p-range Div8 = record { low = lit≤ tt; high = lit≤ tt }
-
--- the settings of an output by P
-pub p-settings : (m n : ℕ) (p : PLLP) {d : ℕ} → Between 2 63 m → Between 50 432 n → d ≡ pDividerOf p → SettingsOk m n d
-p-settings m n p a b e =
-    let r = p-range p in
-    rw e (record { m-low = a .low; m-high = a .high; n-low = b .low; n-high = b .high; d-low = r .low; d-high = omega (arith, r .high) })
 
 -- ---- SYSCLK and the 48 MHz clock, by the input and the groups of the PLLs
 module _ (f : ℕ) (l : Pll) where

@@ -18,6 +18,7 @@ use Rattle.kinds.specs.declared.HSEClock.the-variants.{Absent as NoHse, Oscilla
 use Rattle.kinds.specs.declared.LSEClock.{LSEClock}
 use Rattle.kinds.specs.declared.LSEClock.the-variants.{Absent as NoLse, Oscillator as LseOscillator, Bypass as LseBypass}
 use Rattle.pll.specs.Fixed.{inside, vcoOf, outOf}
+use Rattle.pll.specs.Outputs.{baseOf, pOutputOf}
 use Rattle.clocks.specs.Ratio.{ratioUp}
 use Rattle.clocks.specs.Rows.{Row, row, hpreRow, ppreRow}
 use Rattle.clocks.specs.declared.Ahb.{Ahb}
@@ -26,14 +27,6 @@ use Rattle.clocks.specs.declared.Clocks.{Clocks}
 use Rattle.clocks.specs.declared.InternalRCCConfig.{InternalRCCConfig}
 use Rattle.clocks.specs.declared.Derived.{Derived}
 use Rattle.clocks.specs.declared.Derived.the-variants.{Refused, At}
-
--- 16 × b
-unfoldable pub baseOf : ℕ → ℕ
-baseOf f = 16 * (f / 16)
-
--- the P output
-unfoldable pub pOutputOf : CFGR → ℕ
-pOutputOf c = outOf (vcoOf (inputOf (c .sources .hse)) (c .pll .n .0) (c .pll .m .0)) (pDividerOf (c .pll .p))
 
 -- SYSCLK is 16 × b without `use_pll`, else the P output
 unfoldable pub sysclkOf : CFGR → ℕ

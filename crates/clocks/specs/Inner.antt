@@ -12,7 +12,8 @@ use Rattle.kinds.specs.declared.Requests.{Requests}
 use Rattle.kinds.specs.declared.Request.{Request}
 use Rattle.pll.specs.Fixed.{vcoOf, outOf}
 use Rattle.clocks.specs.Rows.{Row}
-use Rattle.clocks.specs.Derive.{baseOf, cap1Of, cap2Of, ahbFor, apbFor, clocksBy, configBy}
+use Rattle.pll.specs.Outputs.{baseOf}
+use Rattle.clocks.specs.Derive.{cap1Of, cap2Of, ahbFor, apbFor, clocksBy, configBy}
 use Rattle.clocks.specs.declared.Hpre.{Hpre}
 use Rattle.clocks.specs.declared.Ppre.{Ppre}
 use Rattle.clocks.specs.declared.Ahb.{Ahb}

@@ -1,5 +1,6 @@
 -- `outputs::pll48clk_valid` meets its contract: choice by choice.
-use Rattle.clocks.proofs.Deriving.{p-settings, valid-none, valid-q, valid-sai, valid-unused}
+use Rattle.pll.proofs.Settings.{p-settings}
+use Rattle.clocks.proofs.Deriving.{valid-none, valid-q, valid-sai, valid-unused}
 use borrow.Author.Needs.{needs}
 use Rattle.clocks.proofs.outputs.pll48clk_valid.Statement.{statement}
 use Rattle.clocks.proofs.outputs.pll48clk_valid.Tie as tie

@@ -1,5 +1,6 @@
 -- `outputs::sysclk` meets its contract: with the PLL and without.
-use Rattle.clocks.proofs.Deriving.{p-settings, sysclk-on, sysclk-off}
+use Rattle.pll.proofs.Settings.{p-settings}
+use Rattle.clocks.proofs.Deriving.{sysclk-on, sysclk-off}
 use borrow.Author.Needs.{needs}
 use Rattle.clocks.proofs.outputs.sysclk.Statement.{statement}
 use Rattle.clocks.proofs.outputs.sysclk.Tie as tie
