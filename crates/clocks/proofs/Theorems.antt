@@ -23,12 +23,12 @@ use Rattle.clocks.proofs.Table.{hpre-power}
 use Rattle.clocks.proofs.Caps.{caps1, caps2, pclk-within}
 
 -- ---- how an answer comes about
-data DerivedView (c : CFGR) : Derived → Type 0 where
+pub data DerivedView (c : CFGR) : Derived → Type 0 where
   limited : (checkOf c ≡ 0 → ⊥) → DerivedView c (NotDerived (checkOf c))
   above : Checked c → 216000000 < sysclkOf c → DerivedView c (NotDerived 8)
   given : Checked c → Sysclk (sysclkOf c) → DerivedView c (At (clocksOf c) (configOf c))
 
-derived-view : (c : CFGR) → DerivedView c (derivedOf c)
+pub derived-view : (c : CFGR) → DerivedView c (derivedOf c)
 unfolding derivedOf settledOf
 derived-view c = from (eqb (checkOf c) 0) refl
   where
@@ -42,20 +42,20 @@ derived-view c = from (eqb (checkOf c) 0) refl
 
 -- ---- which number it is
 -- the table gives no 0
-some : (c : CFGR) (n : ℕ) → Refused c n → 1 ≤ n
-some c n (hse x) = lit≤ tt
-some c n (hclk x) = lit≤ tt
-some c n (sysclk-asked x) = lit≤ tt
-some c n (pclk1 x) = lit≤ tt
-some c n (pclk2 x) = lit≤ tt
-some c n (pllm x) = lit≤ tt
-some c n (plln x) = lit≤ tt
-some c n (pllq x) = lit≤ tt
-some c n (pllsain x) = lit≤ tt
-some c n (pllsaiq x) = lit≤ tt
-some c n (plli2sn x) = lit≤ tt
-some c n (plli2sr x) = lit≤ tt
-some c n (plli2sq x) = lit≤ tt
+number-pos : (c : CFGR) (n : ℕ) → Refused c n → 1 ≤ n
+number-pos c n (hse x) = lit≤ tt
+number-pos c n (hclk x) = lit≤ tt
+number-pos c n (sysclk-asked x) = lit≤ tt
+number-pos c n (pclk1 x) = lit≤ tt
+number-pos c n (pclk2 x) = lit≤ tt
+number-pos c n (pllm x) = lit≤ tt
+number-pos c n (plln x) = lit≤ tt
+number-pos c n (pllq x) = lit≤ tt
+number-pos c n (pllsain x) = lit≤ tt
+number-pos c n (pllsaiq x) = lit≤ tt
+number-pos c n (plli2sn x) = lit≤ tt
+number-pos c n (plli2sr x) = lit≤ tt
+number-pos c n (plli2sq x) = lit≤ tt
 
 -- and nothing where every limit is kept
 kept-none : (c : CFGR) → Checked c → (n : ℕ) → Refused c n → ⊥
@@ -63,7 +63,7 @@ kept-none c k = at (checkOf c) (check-least c) (told-check c k)
   where
     at : (a : ℕ) → Least c a → a ≡ 0 → (n : ℕ) → Refused c n → ⊥
     at a (none-least f) e = f
-    at a (least-least r f) e = absurd (omega (arith, some c a r))
+    at a (least-least r f) e = absurd (omega (arith, number-pos c a r))
 
 -- the number is the least that the table gives for derive, and 0 exactly where it gives none
 pub derive-least : (c : CFGR) → DeriveLeast c (derivedNumber (derivedOf c))
@@ -98,6 +98,15 @@ derive-accepts-exactly c = from (derivedOf c) (derived-view c)
     from d (limited n) = (λ e. absurd (n e), λ w. absurd (n (told-check c (w .0))))
     from d (above q h) = (λ e. absurd (omega arith), λ w. absurd (omega (arith, w .1)))
     from d (given q s) = (λ e. (q, s .high), λ w. refl)
+
+-- and its answer is then the clocks and codes that the settings give
+pub derive-gives : (c : CFGR) → Checked c → sysclkOf c ≤ 216000000 → derivedOf c ≡ At (clocksOf c) (configOf c)
+derive-gives c k l = from (derivedOf c) (derived-view c)
+  where
+    from : (d : Derived) → DerivedView c d → d ≡ At (clocksOf c) (configOf c)
+    from d (limited n) = absurd (n (told-check c k))
+    from d (above q h) = absurd (omega arith)
+    from d (given q s) = refl
 
 -- it refuses with 8 exactly if every limit is kept and SYSCLK is above 216 MHz
 pub derive-refuses-with-8-exactly : (c : CFGR) → (derivedNumber (derivedOf c) ≡ 8) ↔ (Checked c × (216000000 < sysclkOf c))
