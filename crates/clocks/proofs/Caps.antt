@@ -14,12 +14,12 @@ use Rattle.kinds.specs.declared.Request.{Request}
 use Rattle.kinds.specs.declared.Request.the-variants.{Absent as NoRequest, At as Asked}
 use Rattle.clocks.specs.Ratio.{round24, ratioUp}
 use Rattle.clocks.specs.Rows.{Row, row, ppreRow}
-use Rattle.clocks.specs.Derive.{wantedOf, capOf, cap1Of, cap2Of, apbFor}
+use Rattle.clocks.specs.Derive.{wantedOf, capOf, apbFor}
 use Rattle.clocks.specs.Inner.{Sysclk, Hclk}
 use Rattle.clocks.proofs.Rounded.{split-le}
 use Rattle.clocks.proofs.Monotone.{ratio-grows, ratio-one}
 use Rattle.clocks.proofs.Table.{Power, power-low, power-high, ppre-power}
-use Rattle.clocks.proofs.Deriving.{wanted-range}
+use Rattle.clocks.proofs.Deriving.{row-range, wanted-range, hclk-facts}
 
 -- ---- PPRE's divider for a ratio up to 1, of 2 or more, of 3 or more
 ppre-one : (r : ℕ) → r ≤ 1 → ppreRow r .divider ≡ 1
@@ -139,19 +139,28 @@ pclk-pos most h q m k = at (split-le h (wantedOf most h q))
         let p = ppre-power (ratioUp h (wantedOf most h q)) in
         le-div-iff-mul-le (power-low p) .1 (omega (arith, power-high p, large most h q m (k .asked) g))
 
--- ---- by the row that HPRE has, whichever it is, and the cap that SYSCLK has
-pclk-within : (s lo hi : ℕ) (x : Row) (q : Request) → Cap lo 180000000 → Cap hi 216000000 → Sysclk s → Power 9 x → Hclk (capOf s lo hi) (s / x .divider) q
-    → Between 1 (capOf s lo hi) (apbFor (capOf s lo hi) (s / x .divider) q .pclk .0)
+-- ---- the two caps of a PCLK: up to 180 MHz and above
+pub record Caps (lo hi : ℕ) : Type 0 where
+  lower : Cap lo 180000000
+  upper : Cap hi 216000000
+
+pub caps1 : Caps 45000000 54000000
+caps1 = record { lower = cap-45; upper = cap-54 }
+
+pub caps2 : Caps 90000000 108000000
+caps2 = record { lower = cap-90; upper = cap-108 }
+
+range : {cap most : ℕ} → Cap cap most → Between 1 216000000 cap
+range z = record { low = omega (arith, z .low); high = omega (arith, z .high) }
+
+by-cap : (s lo hi : ℕ) (x : Row) (q : Request) → Caps lo hi → Sysclk s → Power 9 x → Hclk (capOf s lo hi) (s / x .divider) q → Between 1 (capOf s lo hi) (apbFor (capOf s lo hi) (s / x .divider) q .pclk .0)
 unfolding capOf
-pclk-within s lo hi x q a b y p = rw (p .is) (at (leb s 180000000) refl)
+by-cap s lo hi x q z y p = rw (p .is) (at (leb s 180000000) refl)
   where
     at : (t : Bool) → leb s 180000000 ≡ t → Hclk (cond t lo hi) (s / 2 ^ p .exponent) q → Between 1 (cond t lo hi) (apbFor (cond t lo hi) (s / 2 ^ p .exponent) q .pclk .0)
-    at true e k = record { low = pclk-pos lo _ q (a .low) k; high = divided-capped s lo 180000000 q a (y .sixteen) (leb-true s 180000000 e) (p .exponent) k }
-    at false e k = record { low = pclk-pos hi _ q (b .low) k; high = divided-capped s hi 216000000 q b (y .sixteen) (y .high) (p .exponent) k }
+    at true e k = record { low = pclk-pos lo _ q (z .lower .low) k; high = divided-capped s lo 180000000 q (z .lower) (y .sixteen) (leb-true s 180000000 e) (p .exponent) k }
+    at false e k = record { low = pclk-pos hi _ q (z .upper .low) k; high = divided-capped s hi 216000000 q (z .upper) (y .sixteen) (y .high) (p .exponent) k }
 
-module _ (s : ℕ) (x : Row) (q : Request) (y : Sysclk s) (p : Power 9 x) where
-  pub pclk1-within : Hclk (cap1Of s) (s / x .divider) q → Between 1 (cap1Of s) (apbFor (cap1Of s) (s / x .divider) q .pclk .0)
-  pclk1-within = pclk-within s 45000000 54000000 x q cap-45 cap-54 y p
-
-  pub pclk2-within : Hclk (cap2Of s) (s / x .divider) q → Between 1 (cap2Of s) (apbFor (cap2Of s) (s / x .divider) q .pclk .0)
-  pclk2-within = pclk-within s 90000000 108000000 x q cap-90 cap-108 y p
+-- whichever row HPRE has, PCLK is above 0 and within its cap
+pub pclk-within : (s lo hi : ℕ) (x : Row) (q : Request) → Caps lo hi → Sysclk s → Power 9 x → AskedWithin 12500000 hi q → Between 1 (capOf s lo hi) (apbFor (capOf s lo hi) (s / x .divider) q .pclk .0)
+pclk-within s lo hi x q z y p k = by-cap s lo hi x q z y p (hclk-facts s lo hi _ q y (row-range s x y p) refl (range (z .lower)) (range (z .upper)) k)

@@ -25,7 +25,7 @@ use Rattle.pll.specs.declared.Outcome.the-variants.{Refused as NoOutput, At as 
 use Rattle.pll.proofs.Theorems.{output-given}
 use Rattle.pll.proofs.Settings.{input-within, p-range}
 use Rattle.clocks.specs.Ratio.{ratioUp}
-use Rattle.clocks.specs.Rows.{hpreRow, ppreRow}
+use Rattle.clocks.specs.Rows.{Row, hpreRow, ppreRow}
 use Rattle.pll.specs.Outputs.{baseOf, pOutputOf}
 use Rattle.clocks.specs.Derive.{sysclkOf, wantedOf, hpreOf, ahbFor, capOf, timclkOf, apbFor, validOf, cap1Of, cap2Of, clocksBy, configBy, clocksOf, configOf, ahbOf, apb1Of, apb2Of, settledOf, derivedOf}
 use Rattle.clocks.specs.Inner.{grantedOf, hpreHeld, ppreHeld, wholeOf, Sysclk, Hclk, sysclkBy}
@@ -37,7 +37,7 @@ use Rattle.clocks.specs.declared.Clocks.{Clocks}
 use Rattle.clocks.specs.declared.InternalRCCConfig.{InternalRCCConfig}
 use Rattle.clocks.specs.declared.Derived.{Derived}
 use Rattle.clocks.specs.declared.Derived.the-variants.{Refused, At}
-use Rattle.clocks.proofs.Table.{written, last-row, power-low, power-high, hpre-power, ppre-power, divider-whole}
+use Rattle.clocks.proofs.Table.{Power, written, last-row, power-low, power-high, hpre-power, ppre-power, divider-whole}
 
 -- ---- an output of settings that keep their limits is never refused
 module _ (f m n d : ℕ) (i : InputOk f) (s : SettingsOk m n d) {o : Outcome} (e : o ≡ outputOf f m n d) where
@@ -92,11 +92,13 @@ pub ahb-is : (s : ℕ) (q : Request) {k w : ℕ} (x : Hpre) → w ≡ wantedOf s
 unfolding ahbFor
 ahb-is s q {w = w} x ew ex ek = rw (ek, divider-whole s w x ex, ap (λ (z : Hpre). z .code) ex, ew)
 
-pub hclk-range : (s : ℕ) (q : Request) → Sysclk s → Between 1 s (ahbFor s q .hclk .0)
+-- any row leaves something of SYSCLK
+pub row-range : (s : ℕ) (x : Row) → Sysclk s → Power 9 x → Between 1 s (s / x .divider)
+row-range s x k p = record { low = le-div-iff-mul-le (power-low p) .1 (omega (arith, power-high p, k .low)); high = div-le-self s _ }
+
+pub hclk-range : (s : ℕ) (q : Request) {h : Ahb} → Sysclk s → h ≡ ahbFor s q → Between 1 s (h .hclk .0)
 unfolding ahbFor
-hclk-range s q k =
-    let p = hpre-power s (wantedOf s s q) in
-    record { low = le-div-iff-mul-le (power-low p) .1 (omega (arith, power-high p, k .low)); high = div-le-self s _ }
+hclk-range s q k e = rw (ap (λ (u : Ahb). u .hclk .0) e) (row-range s _ k (hpre-power s (wantedOf s s q)))
 
 -- ---- PCLK
 pub wanted-range : (most h : ℕ) (q : Request) → Hclk most h q → Between 1 216000000 (wantedOf most h q)
@@ -115,25 +117,21 @@ pub apb-is : (most h : ℕ) (q : Request) {w r : ℕ} {x : Ppre} {t : Hertz} →
 unfolding apbFor
 apb-is most h q ew er ex et = rw (hertz et, ex, er, ew)
 
-cap-range : (s lo hi : ℕ) → Between 1 216000000 lo → Between 1 216000000 hi → Between 1 216000000 (capOf s lo hi)
-unfolding capOf
-cap-range s lo hi a b = at (leb s 180000000)
-  where
-    at : (t : Bool) → Between 1 216000000 (cond t lo hi)
-    at true = a
-    at false = b
-
 weaken : (hi : ℕ) (q : Request) → hi ≤ 216000000 → AskedWithin 12500000 hi q → AskedWithin 12500000 216000000 q
 weaken hi NoRequest h a = tt
 weaken hi (Asked f) h a = record { low = a .low; high = le-trans (a .high) h }
 
 -- what a PCLK asks of HCLK, its cap (lo or hi) and its request (up to hi)
-pub hclk-facts : (s lo hi most : ℕ) (k q : Request) (h : Ahb) → Sysclk s → h ≡ ahbFor s k → most ≡ capOf s lo hi → Between 1 216000000 lo → Between 1 216000000 hi → AskedWithin 12500000 hi q → Hclk most (h .hclk .0) q
-hclk-facts s lo hi most k q h y e t a b z =
-    let r = cap-range s lo hi a b in
-    let x = hclk-range s k y in
-    let f : h .hclk .0 ≡ ahbFor s k .hclk .0 = ap (λ (u : Ahb). u .hclk .0) e in
-    record { most-low = rw t (r .low); most-high = rw t (r .high); low = rw f (x .low); high = rw f (le-trans (x .high) (y .high)); asked = weaken hi q (b .high) z }
+pub hclk-facts : (s lo hi h : ℕ) (q : Request) {most : ℕ} → Sysclk s → Between 1 s h → most ≡ capOf s lo hi → Between 1 216000000 lo → Between 1 216000000 hi → AskedWithin 12500000 hi q → Hclk most h q
+unfolding capOf
+hclk-facts s lo hi h q y x e a b z = rw e (at (leb s 180000000))
+  where
+    by : (cap : ℕ) → Between 1 216000000 cap → Hclk cap h q
+    by cap r = record { most-low = r .low; most-high = r .high; low = x .low; high = le-trans (x .high) (y .high); asked = weaken hi q (b .high) z }
+
+    at : (t : Bool) → Hclk (cond t lo hi) h q
+    at true = by lo a
+    at false = by hi b
 
 -- ---- the answer
 pub granted-is : (s : ℕ) (q : Requests) (o : Sources) (valid : Bool) {bus : Ahb} {one two : Apb} {m k : ℕ} {x : Clocks} {y : InternalRCCConfig}

@@ -10,7 +10,7 @@ use Rattle.kinds.specs.Limits.{checkOf}
 use Rattle.kinds.specs.Table.{Between, Refused, hse, hclk, sysclk as sysclk-asked, pclk1, pclk2, pllm, plln, pllq, pllsain, pllsaiq, plli2sn, plli2sr, plli2sq, Least, none as none-least, least as least-least, Checked}
 use Rattle.kinds.proofs.Check.{check-told, told-check, check-least, check-le}
 use Rattle.kinds.specs.declared.CFGR.{CFGR}
-use Rattle.clocks.specs.Derive.{sysclkOf, wantedOf, hpreOf, cap1Of, cap2Of, ahbFor, ahbOf, apb1Of, apb2Of, waitsOf, clocksOf, configOf, settledOf, derivedOf}
+use Rattle.clocks.specs.Derive.{sysclkOf, cap1Of, cap2Of, ahbFor, ahbOf, apb1Of, apb2Of, waitsOf, clocksOf, configOf, settledOf, derivedOf}
 use Rattle.clocks.specs.Numbers.{derivedNumber}
 use Rattle.clocks.specs.Refusals.{DeriveRefused, limit, sysclk, DeriveLeast, none, least}
 use Rattle.clocks.specs.Inner.{Sysclk}
@@ -18,17 +18,17 @@ use Rattle.clocks.specs.declared.Clocks.{Clocks}
 use Rattle.clocks.specs.declared.InternalRCCConfig.{InternalRCCConfig}
 use Rattle.clocks.specs.declared.Derived.{Derived}
 use Rattle.clocks.specs.declared.Derived.the-variants.{Refused as NotDerived, At}
-use Rattle.clocks.proofs.Deriving.{sysclk-facts, hclk-range, hclk-facts}
+use Rattle.clocks.proofs.Deriving.{sysclk-facts, hclk-range}
 use Rattle.clocks.proofs.Table.{hpre-power}
-use Rattle.clocks.proofs.Caps.{pclk1-within, pclk2-within}
+use Rattle.clocks.proofs.Caps.{caps1, caps2, pclk-within}
 
 -- ---- how an answer comes about
-data DerivedView (c : CFGR) : Derived → Type 0 where
+pub data DerivedView (c : CFGR) : Derived → Type 0 where
   limited : (checkOf c ≡ 0 → ⊥) → DerivedView c (NotDerived (checkOf c))
   above : Checked c → 216000000 < sysclkOf c → DerivedView c (NotDerived 8)
   given : Checked c → Sysclk (sysclkOf c) → DerivedView c (At (clocksOf c) (configOf c))
 
-derived-view : (c : CFGR) → DerivedView c (derivedOf c)
+pub derived-view : (c : CFGR) → DerivedView c (derivedOf c)
 unfolding derivedOf settledOf
 derived-view c = from (eqb (checkOf c) 0) refl
   where
@@ -42,20 +42,20 @@ derived-view c = from (eqb (checkOf c) 0) refl
 
 -- ---- which number it is
 -- the table gives no 0
-some : (c : CFGR) (n : ℕ) → Refused c n → 1 ≤ n
-some c n (hse x) = lit≤ tt
-some c n (hclk x) = lit≤ tt
-some c n (sysclk-asked x) = lit≤ tt
-some c n (pclk1 x) = lit≤ tt
-some c n (pclk2 x) = lit≤ tt
-some c n (pllm x) = lit≤ tt
-some c n (plln x) = lit≤ tt
-some c n (pllq x) = lit≤ tt
-some c n (pllsain x) = lit≤ tt
-some c n (pllsaiq x) = lit≤ tt
-some c n (plli2sn x) = lit≤ tt
-some c n (plli2sr x) = lit≤ tt
-some c n (plli2sq x) = lit≤ tt
+number-pos : (c : CFGR) (n : ℕ) → Refused c n → 1 ≤ n
+number-pos c n (hse x) = lit≤ tt
+number-pos c n (hclk x) = lit≤ tt
+number-pos c n (sysclk-asked x) = lit≤ tt
+number-pos c n (pclk1 x) = lit≤ tt
+number-pos c n (pclk2 x) = lit≤ tt
+number-pos c n (pllm x) = lit≤ tt
+number-pos c n (plln x) = lit≤ tt
+number-pos c n (pllq x) = lit≤ tt
+number-pos c n (pllsain x) = lit≤ tt
+number-pos c n (pllsaiq x) = lit≤ tt
+number-pos c n (plli2sn x) = lit≤ tt
+number-pos c n (plli2sr x) = lit≤ tt
+number-pos c n (plli2sq x) = lit≤ tt
 
 -- and nothing where every limit is kept
 kept-none : (c : CFGR) → Checked c → (n : ℕ) → Refused c n → ⊥
@@ -63,7 +63,7 @@ kept-none c k = at (checkOf c) (check-least c) (told-check c k)
   where
     at : (a : ℕ) → Least c a → a ≡ 0 → (n : ℕ) → Refused c n → ⊥
     at a (none-least f) e = f
-    at a (least-least r f) e = absurd (omega (arith, some c a r))
+    at a (least-least r f) e = absurd (omega (arith, number-pos c a r))
 
 -- the number is the least that the table gives for derive, and 0 exactly where it gives none
 pub derive-least : (c : CFGR) → DeriveLeast c (derivedNumber (derivedOf c))
@@ -99,6 +99,15 @@ derive-accepts-exactly c = from (derivedOf c) (derived-view c)
     from d (above q h) = (λ e. absurd (omega arith), λ w. absurd (omega (arith, w .1)))
     from d (given q s) = (λ e. (q, s .high), λ w. refl)
 
+-- and its answer is then the clocks and codes that the settings give
+pub derive-gives : (c : CFGR) → Checked c → sysclkOf c ≤ 216000000 → derivedOf c ≡ At (clocksOf c) (configOf c)
+derive-gives c k l = from (derivedOf c) (derived-view c)
+  where
+    from : (d : Derived) → DerivedView c d → d ≡ At (clocksOf c) (configOf c)
+    from d (limited n) = absurd (n (told-check c k))
+    from d (above q h) = absurd (omega arith)
+    from d (given q s) = refl
+
 -- it refuses with 8 exactly if every limit is kept and SYSCLK is above 216 MHz
 pub derive-refuses-with-8-exactly : (c : CFGR) → (derivedNumber (derivedOf c) ≡ 8) ↔ (Checked c × (216000000 < sysclkOf c))
 derive-refuses-with-8-exactly c = from (derivedOf c) (derived-view c)
@@ -116,28 +125,6 @@ derive-gives-only c = from (derivedOf c) (derived-view c)
     from d (limited n) = inl (check-le c)
     from d (above q h) = inr refl
     from d (given q s) = inl (lit≤ tt)
-
--- ---- the buses
-module _ (c : CFGR) (k : Checked c) (y : Sysclk (sysclkOf c)) where
-  hclk-in : Between 1 (sysclkOf c) (ahbOf c .hclk .0)
-  unfolding ahbOf
-  hclk-in = hclk-range (sysclkOf c) (c .requests .hclk) y
-
-  pclk1-in : Between 1 (cap1Of (sysclkOf c)) (apb1Of c .pclk .0)
-  unfolding ahbOf apb1Of ahbFor
-  pclk1-in =
-      let s = sysclkOf c in
-      let q = c .requests .hclk in
-      pclk1-within s (hpreOf s (wantedOf s s q)) (c .requests .pclk1) y (hpre-power s (wantedOf s s q))
-      (hclk-facts s 45000000 54000000 _ q (c .requests .pclk1) (ahbFor s q) y refl refl (record { low = lit≤ tt; high = lit≤ tt }) (record { low = lit≤ tt; high = lit≤ tt }) (k .requests .pclk1))
-
-  pclk2-in : Between 1 (cap2Of (sysclkOf c)) (apb2Of c .pclk .0)
-  unfolding ahbOf apb2Of ahbFor
-  pclk2-in =
-      let s = sysclkOf c in
-      let q = c .requests .hclk in
-      pclk2-within s (hpreOf s (wantedOf s s q)) (c .requests .pclk2) y (hpre-power s (wantedOf s s q))
-      (hclk-facts s 90000000 108000000 _ q (c .requests .pclk2) (ahbFor s q) y refl refl (record { low = lit≤ tt; high = lit≤ tt }) (record { low = lit≤ tt; high = lit≤ tt }) (k .requests .pclk2))
 
 -- ---- wait states
 -- up to 216 MHz the ladder is (SYSCLK − 1) / 30,000,000
@@ -179,17 +166,17 @@ module _ (c : CFGR) (x : Clocks) (y : InternalRCCConfig) (e : derivedOf c ≡ At
 
   -- HCLK is above 0 and at most SYSCLK
   pub hclk-within-sysclk : Between 1 (x .sysclk .0) (x .hclk .0)
-  unfolding clocksOf
-  hclk-within-sysclk = carried (λ z w. Between 1 (z .sysclk .0) (z .hclk .0)) (hclk-in c)
+  unfolding clocksOf ahbOf
+  hclk-within-sysclk = carried (λ z w. Between 1 (z .sysclk .0) (z .hclk .0)) (λ k s. hclk-range (sysclkOf c) (c .requests .hclk) s refl)
 
   -- PCLK1 and PCLK2 are above 0 and within document 01's caps
   pub pclk1-within-cap : Between 1 (cap1Of (x .sysclk .0)) (x .pclk1 .0)
-  unfolding clocksOf
-  pclk1-within-cap = carried (λ z w. Between 1 (cap1Of (z .sysclk .0)) (z .pclk1 .0)) (pclk1-in c)
+  unfolding clocksOf ahbOf apb1Of ahbFor
+  pclk1-within-cap = carried (λ z w. Between 1 (cap1Of (z .sysclk .0)) (z .pclk1 .0)) (λ k s. pclk-within _ _ _ _ (c .requests .pclk1) caps1 s (hpre-power _ _) (k .requests .pclk1))
 
   pub pclk2-within-cap : Between 1 (cap2Of (x .sysclk .0)) (x .pclk2 .0)
-  unfolding clocksOf
-  pclk2-within-cap = carried (λ z w. Between 1 (cap2Of (z .sysclk .0)) (z .pclk2 .0)) (pclk2-in c)
+  unfolding clocksOf ahbOf apb2Of ahbFor
+  pclk2-within-cap = carried (λ z w. Between 1 (cap2Of (z .sysclk .0)) (z .pclk2 .0)) (λ k s. pclk-within _ _ _ _ (c .requests .pclk2) caps2 s (hpre-power _ _) (k .requests .pclk2))
 
   -- the wait states are (SYSCLK − 1) / 30,000,000
   pub waits-by-arithmetic : y .«flash_waitstates» ≡ (x .sysclk .0 - 1) / 30000000

@@ -10,7 +10,7 @@ use kinds::Divider;
 use kinds::Hertz;
 use kinds::Request;
 ghost use mathlib.Core.Path.{_≡_};
-ghost use Prim.Native.Nat.{_*_, _<_, _≤_, min};
+ghost use Prim.Native.Nat.{_<_, _≤_, min};
 ghost use Rattle.clocks.specs.Derive.{wantedOf, hpreOf, capOf, timclkOf, ahbFor, apbFor};
 ghost use Rattle.clocks.specs.Inner.{Sysclk, Hclk, hpreHeld};
 

@@ -9,11 +9,10 @@ use pll::Outcome;
 ghost use mathlib.Core.Path.{_≡_};
 ghost use Rattle.kinds.specs.Table.{PllWithin, SaiWithin};
 ghost use Rattle.pll.specs.Fixed.{InputOk, SettingsOk, inside, vcoOf, outOf};
-ghost use Rattle.pll.specs.Outputs.{baseOf};
 ghost use Rattle.clocks.specs.Derive.{validOf};
 ghost use Rattle.clocks.specs.Inner.{sysclkBy};
 
-// An output of settings that keep their limits.
+// An output of settings that keep their limits, and so are never refused.
 fn output(f: Hertz, m: Divider, n: Factor, d: Divider) -> u64
     requires { ⌜ InputOk (f .0) × SettingsOk (m .0) (n .0) (d .0) ⌝ }
     ensures { λ r. ⌜ r ≡ outOf (vcoOf (f .0) (n .0) (m .0)) (d .0) ⌝ }

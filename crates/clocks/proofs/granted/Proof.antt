@@ -1,6 +1,6 @@
 -- `granted` meets its contract: HCLK, both PCLKs by their caps, and what is handed back, joined.
 use lib.Dec.{lit≤}
-use Rattle.clocks.proofs.Deriving.{hclk-facts, granted-is}
+use Rattle.clocks.proofs.Deriving.{hclk-range, hclk-facts, granted-is}
 use borrow.Author.Needs.{needs}
 use Rattle.clocks.proofs.granted.Statement.{statement}
 use Rattle.clocks.proofs.granted.Tie as tie
@@ -14,7 +14,7 @@ cap-requires c κs = search needs
 apb-requires : tie.Need-apb-requires
 apb-requires c κs =
     let s = c .before .before .before in
-    hclk-facts _ 45000000 54000000 _ _ (s .args .requests .pclk1) _ (s .pre .0) (c .before .before .ahb .ensures) (c .cap .ensures)
+    hclk-facts _ _ _ _ (s .args .requests .pclk1) (s .pre .0) (hclk-range _ _ (s .pre .0) (c .before .before .ahb .ensures)) (c .cap .ensures)
     (record { low = lit≤ tt; high = lit≤ tt }) (record { low = lit≤ tt; high = lit≤ tt }) (s .pre .1 .pclk1)
 
 cap-requires-2 : tie.Need-cap-requires-2
@@ -23,7 +23,7 @@ cap-requires-2 c κs = search needs
 apb-requires-2 : tie.Need-apb-requires-2
 apb-requires-2 c κs =
     let s = c .before .before .before .before .before in
-    hclk-facts _ 90000000 108000000 _ _ (s .args .requests .pclk2) _ (s .pre .0) (c .before .before .before .before .ahb .ensures) (c .cap2 .ensures)
+    hclk-facts _ _ _ _ (s .args .requests .pclk2) (s .pre .0) (hclk-range _ _ (s .pre .0) (c .before .before .before .before .ahb .ensures)) (c .cap2 .ensures)
     (record { low = lit≤ tt; high = lit≤ tt }) (record { low = lit≤ tt; high = lit≤ tt }) (s .pre .1 .pclk2)
 
 frozen-requires : tie.Need-frozen-requires

@@ -1,6 +1,7 @@
 -- `settled` meets its contract: 8 above 216 MHz, else what SYSCLK grants.
 use Rattle.clocks.proofs.Deriving.{input-told, sysclk-within, settled-8, settled-at}
 use borrow.Author.Needs.{needs}
+use native.Mathlib.Omega.{arith}
 use Rattle.clocks.proofs.settled.Statement.{statement}
 use Rattle.clocks.proofs.settled.Tie as tie
 
@@ -21,7 +22,7 @@ pll48clk-valid-requires c κs =
 granted-requires : tie.Need-granted-requires
 granted-requires c κs =
     let k = c .before .before .before .before .before .before .before .before .pre in
-    (sysclk-within _ k (c .before .before .before .input-of .ensures) (c .before .before .sysclk .ensures) (c .before .if1 .left), k .requests)
+    (sysclk-within _ k (c .before .before .before .input-of .ensures) (c .before .before .sysclk .ensures) (omega (arith, c .before .if1 .left)), k .requests)
 
 returns : tie.Need-returns
 returns c = settled-8 _ (c .before .before .input-of .ensures) (c .before .sysclk .ensures) (c .if1 .taken)
