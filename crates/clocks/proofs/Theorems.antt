@@ -7,12 +7,12 @@ use lib.Dec.{leb, ltb, eqb, lit≤}
 use native.Mathlib.Omega.{arith}
 use borrow.Author.Tests.{eqb-true, eqb-false, ltb-true, ltb-false, leb-true, leb-false, lt-leb}
 use Rattle.kinds.specs.Limits.{checkOf}
-use Rattle.kinds.specs.Table.{Between, Refused, hse, hclk, sysclk as sysclk-asked, pclk1, pclk2, pllm, plln, pllq, pllsain, pllsaiq, plli2sn, plli2sr, plli2sq, Least, none as none-least, least as least-least, Checked}
-use Rattle.kinds.proofs.Check.{check-told, told-check, check-least, check-le}
+use Rattle.kinds.specs.Table.{Between, Refused, LeastOf, Least, none, least, Checked}
+use Rattle.kinds.proofs.Check.{check-told, told-check, kept-none, check-least, check-le}
 use Rattle.kinds.specs.declared.CFGR.{CFGR}
 use Rattle.clocks.specs.Derive.{sysclkOf, cap1Of, cap2Of, ahbFor, ahbOf, apb1Of, apb2Of, waitsOf, clocksOf, configOf, settledOf, derivedOf}
 use Rattle.clocks.specs.Numbers.{derivedNumber}
-use Rattle.clocks.specs.Refusals.{DeriveRefused, limit, sysclk, DeriveLeast, none, least}
+use Rattle.clocks.specs.Refusals.{DeriveRefused, limit, sysclk}
 use Rattle.clocks.specs.Inner.{Sysclk}
 use Rattle.clocks.specs.declared.Clocks.{Clocks}
 use Rattle.clocks.specs.declared.InternalRCCConfig.{InternalRCCConfig}
@@ -41,41 +41,17 @@ derived-view c = from (eqb (checkOf c) 0) refl
     from false e = limited (eqb-false (checkOf c) 0 e)
 
 -- ---- which number it is
--- the table gives no 0
-number-pos : (c : CFGR) (n : ℕ) → Refused c n → 1 ≤ n
-number-pos c n (hse x) = lit≤ tt
-number-pos c n (hclk x) = lit≤ tt
-number-pos c n (sysclk-asked x) = lit≤ tt
-number-pos c n (pclk1 x) = lit≤ tt
-number-pos c n (pclk2 x) = lit≤ tt
-number-pos c n (pllm x) = lit≤ tt
-number-pos c n (plln x) = lit≤ tt
-number-pos c n (pllq x) = lit≤ tt
-number-pos c n (pllsain x) = lit≤ tt
-number-pos c n (pllsaiq x) = lit≤ tt
-number-pos c n (plli2sn x) = lit≤ tt
-number-pos c n (plli2sr x) = lit≤ tt
-number-pos c n (plli2sq x) = lit≤ tt
-
--- and nothing where every limit is kept
-kept-none : (c : CFGR) → Checked c → (n : ℕ) → Refused c n → ⊥
-kept-none c k = at (checkOf c) (check-least c) (told-check c k)
-  where
-    at : (a : ℕ) → Least c a → a ≡ 0 → (n : ℕ) → Refused c n → ⊥
-    at a (none-least f) e = f
-    at a (least-least r f) e = absurd (omega (arith, number-pos c a r))
-
 -- the number is the least that the table gives for derive, and 0 exactly where it gives none
-pub derive-least : (c : CFGR) → DeriveLeast c (derivedNumber (derivedOf c))
+pub derive-least : (c : CFGR) → LeastOf (DeriveRefused c) (derivedNumber (derivedOf c))
 derive-least c = from (derivedOf c) (derived-view c)
   where
     below : (a : ℕ) → a ≤ 6 → ((k : ℕ) → Refused c k → a ≤ k) → (k : ℕ) → DeriveRefused c k → a ≤ k
     below a l f k (limit r) = f k r
     below a l f k (sysclk h) = omega arith
 
-    limits : (a : ℕ) → Least c a → a ≤ 6 → (a ≡ 0 → ⊥) → DeriveLeast c a
-    limits a (none-least f) l n = absurd (n refl)
-    limits a (least-least r f) l n = least (limit r) (below a l f)
+    limits : (a : ℕ) → Least c a → a ≤ 6 → (a ≡ 0 → ⊥) → LeastOf (DeriveRefused c) a
+    limits a (none f) l n = absurd (n refl)
+    limits a (least r f) l n = least (limit r) (below a l f)
 
     only : Checked c → (k : ℕ) → DeriveRefused c k → 8 ≤ k
     only q k (limit r) = absurd (kept-none c q k r)
@@ -85,7 +61,7 @@ derive-least c = from (derivedOf c) (derived-view c)
     never q l k (limit r) = kept-none c q k r
     never q l k (sysclk h) = omega arith
 
-    from : (d : Derived) → DerivedView c d → DeriveLeast c (derivedNumber d)
+    from : (d : Derived) → DerivedView c d → LeastOf (DeriveRefused c) (derivedNumber d)
     from d (limited n) = limits (checkOf c) (check-least c) (check-le c) n
     from d (above q h) = least (sysclk h) (only q)
     from d (given q s) = none (never q (s .high))

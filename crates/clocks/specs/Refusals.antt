@@ -1,5 +1,5 @@
--- Document 01's table of refusals as far as derive goes: when it gives a number, and which of several.
-use Prim.Native.Nat.{ℕ, _≤_, _<_}
+-- Document 01's table of refusals as far as derive goes: when it gives a number; of several, the least is answered (`LeastOf`).
+use Prim.Native.Nat.{ℕ, _<_}
 use Rattle.kinds.specs.Table.{Refused}
 use Rattle.kinds.specs.declared.CFGR.{CFGR}
 use Rattle.clocks.specs.Derive.{sysclkOf}
@@ -8,8 +8,3 @@ use Rattle.clocks.specs.Derive.{sysclkOf}
 pub data DeriveRefused (c : CFGR) : ℕ → Type 0 where
   limit : {n : ℕ} → Refused c n → DeriveRefused c n
   sysclk : 216000000 < sysclkOf c → DeriveRefused c 8
-
--- n is the least number given, or 0 where none is
-pub data DeriveLeast (c : CFGR) : ℕ → Type 0 where
-  none : ((n : ℕ) → DeriveRefused c n → ⊥) → DeriveLeast c 0
-  least : {n : ℕ} → DeriveRefused c n → ((k : ℕ) → DeriveRefused c k → n ≤ k) → DeriveLeast c n

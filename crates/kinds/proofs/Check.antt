@@ -269,16 +269,20 @@ module _ (c : CFGR) where
         i2s = record { n = i .0; r = i .1 .0; q = i .1 .1 };
       }
 
+  kept-all : Checked c → HseWithin (c .sources .hse) × (Requests × (Pll × (Sai × I2s)))
+  kept-all w =
+      let q = w .requests in
+      let p = w .pll in
+      let i = w .i2s in
+      (w .hse, ((q .hclk, (q .sysclk, (q .pclk1, q .pclk2))), ((p .m, (p .n, p .q)), ((w .sai .n, w .sai .q), (i .n, (i .r, i .q))))))
+
+  -- then the table gives no number
+  pub kept-none : Checked c → (n : ℕ) → Refused c n → ⊥
+  kept-none w n r = covers .none-given (kept-all w) n (to-given n r)
+
   pub told-check : Checked c → checkOf c ≡ 0
   told-check w = at (checkOf c) covers
     where
-      kept-all : HseWithin (c .sources .hse) × (Requests × (Pll × (Sai × I2s)))
-      kept-all =
-          let q = w .requests in
-          let p = w .pll in
-          let i = w .i2s in
-          (w .hse, ((q .hclk, (q .sysclk, (q .pclk1, q .pclk2))), ((p .m, (p .n, p .q)), ((w .sai .n, w .sai .q), (i .n, (i .r, i .q))))))
-
       at : (a : ℕ) → Covers (HseWithin (c .sources .hse) × (Requests × (Pll × (Sai × I2s)))) Given 1 6 a → a ≡ 0
       at zero v = refl
-      at (suc k) v = absurd (v .none-given kept-all (suc k) (v .given (omega arith)))
+      at (suc k) v = absurd (v .none-given (kept-all w) (suc k) (v .given (omega arith)))
