@@ -39,7 +39,6 @@ floor-near x d (inr (inr (inl e))) = rw e (omega arith, omega arith)
 floor-near x d (inr (inr (inr (inl e)))) = rw e (omega arith, omega arith)
 
 pllp-divider : (d : ℕ) → Among d pDividers → pDividerOf (pllpOf d) ≡ d
-unfolding pllpOf
 pllp-divider d (inl e) = rw e
 pllp-divider d (inr (inl e)) = rw e
 pllp-divider d (inr (inr (inl e))) = rw e

@@ -98,6 +98,15 @@ wanted-high : (c : CFGR) → Checked c → wantedIn c ≤ 216000000
 unfolding wantedIn baseIn
 wanted-high c h = wanted-range (c .requests .sysclk) _ (h .requests .sysclk) (base-range c h) .high
 
+-- it comes of a configuration whose limits are kept
+pub planned-from : (c d : CFGR) (k : ℕ) → Plans c d k → Checked c
+planned-from c d k e = of (ready-way c d k e)
+  where
+    of : {d : CFGR} {k : ℕ} → Ways c (Ready d k) → Checked c
+    of (unneeded h p q) = h
+    of (fitting h s q f) = h
+    of (found s a) = s .checked
+
 -- every limit is kept, so that no check refuses it
 pub planned-checked : (c d : CFGR) (k : ℕ) → Plans c d k → Checked d
 planned-checked c d k e = of (ready-way c d k e)

@@ -7,7 +7,7 @@ use lib.Dec.{leb}
 use native.Mathlib.Omega.{arith}
 use borrow.Author.Tests.{leb-true, leb-false, ne-eqb}
 use Rattle.kinds.specs.Limits.{outsideOf, limited, firstOf, hseRefusal, askedRefusal, requestsRefusal, checkOf}
-use Rattle.kinds.specs.Table.{Between, Outside, HseWithin, HseOutside, AskedWithin, AskedOutside, Refused, hse, hclk, sysclk, pclk1, pclk2, pllm, plln, pllq, pllsain, pllsaiq, plli2sn, plli2sr, plli2sq, LeastOf, Least, none, least, Checked}
+use Rattle.kinds.specs.Table.{Between, Outside, HseWithin, HseOutside, AskedWithin, AskedOutside, Refused, hse, hclk, sysclk, pclk1, pclk2, pllm, plln, pllq, pllsain, pllsaiq, plli2sn, plli2sr, plli2sq, Least, none, least, Checked}
 use Rattle.kinds.specs.declared.CFGR.{CFGR}
 use Rattle.kinds.specs.declared.HSEClock.{HSEClock}
 use Rattle.kinds.specs.declared.HSEClock.the-variants.{Absent as NoHse, Oscillator, Bypass}

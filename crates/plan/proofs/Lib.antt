@@ -1,3 +1,6 @@
 -- The parts of plan, how an answer comes about, and last the theorems that are promised.
 pub mod Planning
 pub mod Late
+pub mod View
+pub mod Theorems
+pub mod Examples

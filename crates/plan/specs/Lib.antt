@@ -1,3 +1,4 @@
 -- What a reader of this crate must believe.
 pub mod Plan
 pub mod Refusals
+pub mod Examples

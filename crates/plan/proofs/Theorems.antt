@@ -1,0 +1,193 @@
+-- What is promised of a plan, for every configuration; each is read off how a plan comes about.
+use Prim.Native.Nat.{ℕ, _/_, _≤_, _<_}
+use mathlib.Core.Path.{_≡_, refl, sym, _∙_, ap, subst}
+use mathlib.Core.Logic.{_⊎_, inl, inr}
+use mathlib.Core.Bool.{Bool, true, false, cond}
+use lib.Dec.{eqb}
+use native.Mathlib.Omega.{arith}
+use native.Mathlib.Nat.{div-le-of-le-mul}
+use Rattle.kinds.specs.Limits.{checkOf}
+use Rattle.kinds.specs.Table.{Between, Refused as Given, LeastOf, Least, none, least}
+use Rattle.kinds.proofs.Check.{kept-none, check-least, check-le}
+use Rattle.kinds.specs.declared.CFGR.{CFGR}
+use Rattle.pll.proofs.Dividers.{split}
+use Rattle.pll.specs.Outputs.{pOutputOf}
+use Rattle.pll.specs.declared.Window.the-variants.{Absent}
+use Rattle.configure.specs.Configure.{baseIn, wantedIn, pWindowIn, configuredOf, numberOf as configuredNumber, passesOf as configuredPasses}
+use Rattle.configure.specs.Ways.{Seeks, Plans, Near, Keeps}
+use Rattle.configure.specs.declared.Configured.{Configured}
+use Rattle.configure.specs.declared.Configured.the-variants.{Refused as NotConfigured, Ready as Configures}
+use Rattle.configure.proofs.Theorems.{refuses-with-7-exactly, planned-from, planned-checked, planned-keeps, planned-again, planned-near}
+use Rattle.clocks.specs.Derive.{sysclkOf, clocksOf, configOf, derivedOf}
+use Rattle.clocks.specs.declared.Clocks.{Clocks}
+use Rattle.clocks.specs.declared.InternalRCCConfig.{InternalRCCConfig}
+use Rattle.clocks.specs.declared.Derived.{Derived}
+use Rattle.clocks.specs.declared.Derived.the-variants.{Refused as NotDerived, At}
+use Rattle.plan.specs.Plan.{limitsOf, limitedOf, clockedOf, plannedOf, planOf, numberOf, passesOf}
+use Rattle.plan.specs.Refusals.{roughIn, Late, sai-vco, sai-p, i2s-vco, PlanRefused, limit, search, late}
+use Rattle.plan.specs.declared.Planned.{Planned}
+use Rattle.plan.specs.declared.Planned.the-variants.{Refused, Ready}
+use Rattle.plan.proofs.Late.{late-least}
+use Rattle.plan.proofs.View.{PlanView, refused, missed, limited, ready, planned-derived, plan-view, plan-of}
+
+-- ---- which number it is
+-- a configuration that is planned kept every limit, and its search has an answer: 9 to 11 alone are left
+planned-only : (c d : CFGR) (k : ℕ) → Plans c d k → (n : ℕ) → PlanRefused c n → Late d n
+planned-only c d k e n (limit r) = absurd (kept-none c (planned-from c d k e) n r)
+planned-only c d k e n (search s g) =
+    absurd (let h = refuses-with-7-exactly c .1 (s, g) in let z : _≡_ {A = ℕ} 0 7 = sym (ap (λ (r : Configured). configuredNumber r) e) ∙ h in omega arith)
+planned-only c d k e n (late {d = f} y l) = let g : f ≡ d = cc in subst (λ (z : CFGR). Late z n) g l
+
+late-low : (d : CFGR) (n : ℕ) → Late d n → Between 9 11 n
+late-low d n (sai-vco x) = record { low = omega arith; high = omega arith }
+late-low d n (sai-p x) = record { low = omega arith; high = omega arith }
+late-low d n (i2s-vco x) = record { low = omega arith; high = omega arith }
+
+-- the number is the least that the table gives for plan, and 0 exactly where it gives none
+pub plan-least : (c : CFGR) → LeastOf (PlanRefused c) (numberOf (planOf c))
+plan-least c = from (planOf c) (plan-view c)
+  where
+    below : (a : ℕ) → a ≤ 6 → ((k : ℕ) → Given c k → a ≤ k) → (k : ℕ) → PlanRefused c k → a ≤ k
+    below a l f k (limit r) = f k r
+    below a l f k (search s g) = omega arith
+    below a l f k (late {d = d} y x) = omega (arith, late-low d k x .low)
+
+    limits : (a : ℕ) → Least c a → a ≤ 6 → (a ≡ 0 → ⊥) → LeastOf (PlanRefused c) a
+    limits a (none f) l n = absurd (n refl)
+    limits a (least r f) l n = least (limit r) (below a l f)
+
+    unfound : Seeks c → (k : ℕ) → PlanRefused c k → 7 ≤ k
+    unfound s k (limit r) = absurd (kept-none c (s .checked) k r)
+    unfound s k (search t g) = omega arith
+    unfound s k (late {d = d} y x) = omega (arith, late-low d k x .low)
+
+    lates : (d : CFGR) (k : ℕ) → Plans c d k → (a : ℕ) → LeastOf (Late d) a → LeastOf (PlanRefused c) a
+    lates d k e a (none f) = none (λ n r. f n (planned-only c d k e n r))
+    lates d k e a (least x f) = least (late e x) (λ n r. f n (planned-only c d k e n r))
+
+    from : (p : Planned) → PlanView c p → LeastOf (PlanRefused c) (numberOf p)
+    from p (refused z) = limits (checkOf c) (check-least c) (check-le c) z
+    from p (missed s g) = least (search s g) (unfound s)
+    from p (limited {d = d} {k = k} e z) = lates d k e (limitsOf d) (late-least d)
+    from p (ready {d = d} {k = k} e z) = lates d k e 0 (subst (λ (n : ℕ). LeastOf (Late d) n) z (late-least d))
+
+-- a plan never gives 8: its numbers are 0 to 7 and 9 to 11
+pub plan-gives-only : (c : CFGR) → (numberOf (planOf c) ≤ 7) ⊎ Between 9 11 (numberOf (planOf c))
+plan-gives-only c = from (planOf c) (plan-view c)
+  where
+    lates : (d : CFGR) (a : ℕ) → LeastOf (Late d) a → (a ≡ 0 → ⊥) → Between 9 11 a
+    lates d a (none f) z = absurd (z refl)
+    lates d a (least x f) z = late-low d a x
+
+    from : (p : Planned) → PlanView c p → (numberOf p ≤ 7) ⊎ Between 9 11 (numberOf p)
+    from p (refused z) = inl (let h = check-le c in omega arith)
+    from p (missed s g) = inl (omega arith)
+    from p (limited {d = d} e z) = inr (lates d (limitsOf d) (late-least d) z)
+    from p (ready e z) = inl (omega arith)
+
+pub never-8 : (c : CFGR) → numberOf (planOf c) ≡ 8 → ⊥
+never-8 c e = from (plan-gives-only c)
+  where
+    from : (numberOf (planOf c) ≤ 7) ⊎ Between 9 11 (numberOf (planOf c)) → ⊥
+    from (inl h) = omega arith
+    from (inr h) = omega (arith, h .low)
+
+-- the passes are those of pll_configure, whatever the plan answers
+pub passes-are-configure's : (c : CFGR) → passesOf (planOf c) ≡ configuredPasses (configuredOf c)
+unfolding planOf plannedOf clockedOf limitedOf
+passes-are-configure's c = from (configuredOf c)
+  where
+    by : (t : Bool) (d : CFGR) (n k : ℕ) (x : Clocks) (y : InternalRCCConfig) → passesOf (cond t (Ready d k x y) (Refused n k)) ≡ k
+    by true d n k x y = refl
+    by false d n k x y = refl
+
+    at : (d : CFGR) (k : ℕ) (z : Derived) → passesOf (clockedOf d k z) ≡ k
+    at d k (NotDerived n) = refl
+    at d k (At x y) = by (eqb (limitsOf d) 0) d (limitsOf d) k x y
+
+    from : (f : Configured) → passesOf (plannedOf f) ≡ configuredPasses f
+    from (NotConfigured n k) = refl
+    from (Configures d k) = at d k (derivedOf d)
+
+-- ---- a plan that is made
+module _ (c d : CFGR) (k : ℕ) (x : Clocks) (y : InternalRCCConfig) (e : planOf c ≡ Ready d k x y) where
+  -- what it is made of
+  record Made : Type 0 where
+    plans : Plans c d k
+    unlimited : limitsOf d ≡ 0
+    clocks : clocksOf d ≡ x
+    config : configOf d ≡ y
+
+  made : Made
+  made = from (planOf c) (plan-view c) e
+    where
+      from : (p : Planned) → PlanView c p → p ≡ Ready d k x y → Made
+      from p (refused z) h = absurd (let z : _≡_ {A = ℕ} 0 1 = cc in omega arith)
+      from p (missed s g) h = absurd (let z : _≡_ {A = ℕ} 0 1 = cc in omega arith)
+      from p (limited a z) h = absurd (let z : _≡_ {A = ℕ} 0 1 = cc in omega arith)
+      from p (ready {d = f} {k = j} a z) h =
+          let g : f ≡ d = cc in
+          let i : j ≡ k = cc in
+          record { plans = a ∙ both g i; unlimited = subst (λ (w : CFGR). limitsOf w ≡ 0) g z; clocks = cc; config = cc }
+        where
+          both : {a b : CFGR} {m n : ℕ} → a ≡ b → m ≡ n → Configures a m ≡ Configures b n
+          both p q = rw (p, q)
+
+  -- its configuration is pll_configure's, and nothing but the main PLL's settings has changed
+  pub plan-is-configured : Plans c d k × Keeps c d
+  plan-is-configured = (made .plans, planned-keeps c d k (made .plans))
+
+  -- its clocks and codes are what derive gives for it, so that what is promised of derive is promised of a plan
+  pub plan-is-derived : derivedOf d ≡ At x y
+  plan-is-derived = planned-derived c d k (made .plans) ∙ both (made .clocks) (made .config)
+    where
+      both : {a b : Clocks} {m n : InternalRCCConfig} → a ≡ b → m ≡ n → At a m ≡ At b n
+      both p q = rw (p, q)
+
+  -- planned again, it is the same plan; its passes are the same where its own search runs, else 0
+  pub plan-again : (Seeks d → planOf d ≡ Ready d k x y) × ((Seeks d → ⊥) → planOf d ≡ Ready d 0 x y)
+  plan-again = (λ s. same k (again .0 s), λ s. same 0 (again .1 s))
+    where
+      again : (Seeks d → Plans d d k) × ((Seeks d → ⊥) → Plans d d 0)
+      again = planned-again c d k (made .plans)
+
+      both : {a b : Clocks} {m n : InternalRCCConfig} (j : ℕ) → a ≡ b → m ≡ n → Ready d j a m ≡ Ready d j b n
+      both j p q = rw (p, q)
+
+      same : (j : ℕ) → Plans d d j → planOf d ≡ Ready d j x y
+      same j p = plan-of d d j p (made .unlimited) ∙ both j (made .clocks) (made .config)
+
+  -- ---- SYSCLK
+  sysclk-is : x .sysclk .0 ≡ cond (d .pll .use_pll) (pOutputOf d) (baseIn d)
+  unfolding baseIn clocksOf sysclkOf
+  sysclk-is = ap (λ (z : Clocks). z .sysclk .0) (sym (made .clocks))
+
+  -- without `use_pll` it is 16 × b
+  pub sysclk-without-pll : d .pll .use_pll ≡ false → x .sysclk .0 ≡ baseIn d
+  sysclk-without-pll u = sysclk-is ∙ rw u
+
+  -- with it, it is the P output
+  pub sysclk-with-pll : d .pll .use_pll ≡ true → x .sysclk .0 ≡ pOutputOf d
+  sysclk-with-pll u = sysclk-is ∙ rw u
+
+  -- planned by a P window, it is at most 1 Hz above what was wanted and at most 15 Hz below
+  pub sysclk-near : d .pll .use_pll ≡ true → (pWindowIn c ≡ Absent → ⊥) → Near (wantedIn c) (x .sysclk .0)
+  sysclk-near u w = rw (sysclk-with-pll u) (planned-near c d k (made .plans) u w)
+
+  -- ---- PLLI2S after 11: its outputs with R and Q are at most 216 MHz, so that the Rust's asserts on them can't fail
+  i2s-high : d .i2s .use_plli2s ≡ true → roughIn d (d .i2s .n .0) ≤ 432000000
+  i2s-high u = from (split 432000000 (roughIn d (d .i2s .n .0)))
+    where
+      unlimited : (a : ℕ) → LeastOf (Late d) a → a ≡ 0 → Late d 11 → ⊥
+      unlimited a (none f) z l = f 11 l
+      unlimited a (least l f) z m = omega (arith, late-low d a l .low)
+
+      from : (432000000 < roughIn d (d .i2s .n .0)) ⊎ (roughIn d (d .i2s .n .0) ≤ 432000000) → roughIn d (d .i2s .n .0) ≤ 432000000
+      from (inl h) = absurd (unlimited (limitsOf d) (late-least d) (made .unlimited) (i2s-vco (u, inr h)))
+      from (inr h) = h
+
+  pub i2s-outputs : d .i2s .use_plli2s ≡ true → (roughIn d (d .i2s .n .0) / d .i2s .r .0 ≤ 216000000) × (roughIn d (d .i2s .n .0) / d .i2s .q .0 ≤ 216000000)
+  i2s-outputs u =
+      let h = planned-checked c d k (made .plans) .i2s in
+      let v = i2s-high u in
+      (div-le-of-le-mul (d .i2s .r .0) (omega (arith, h .r .low)), div-le-of-le-mul (d .i2s .q .0) (omega (arith, h .q .low)))
