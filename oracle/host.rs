@@ -6,12 +6,19 @@ macro_rules! say {
     ($($words:tt)*) => { crate::said(format_args!($($words)*)) };
 }
 
+mod answers;
 mod bench;
 mod boundary_cases;
 mod boundary_records;
+mod boundary_requests;
 mod cases;
+mod clocks;
 mod compare_checks;
+mod compare_configures;
+mod compare_derives;
+mod compare_lines;
 mod compare_outputs;
+mod compare_plans;
 mod compare_searches;
 mod compare_setters;
 mod configuration;
@@ -19,16 +26,21 @@ mod library;
 mod panics;
 mod random;
 mod records;
+mod requests;
+mod rows;
 mod run;
 mod self_test;
 mod setters;
+mod table;
 mod tally;
 mod walk;
+mod ways;
 
 use std::fmt::Arguments;
 use std::io::Write;
 use std::process::ExitCode;
 
+use requests::Requests;
 use run::Run;
 
 fn main() -> ExitCode {
@@ -53,7 +65,7 @@ fn said(words: Arguments) {
     }
 }
 
-/// The boundary lists whole and `count` random cases in each of the four comparisons.
+/// The boundary lists whole and `count` random cases in each of the eight comparisons.
 fn compare(count: u64, seed: u64) -> ExitCode {
     panics::install();
     let run = &mut Run::new(count, seed);
@@ -62,6 +74,11 @@ fn compare(count: u64, seed: u64) -> ExitCode {
     let checks = compare_checks::run(run);
     let searches = compare_searches::run(run);
     let outputs = compare_outputs::run(run);
+    let requests = &Requests::new();
+    let configures = compare_configures::run(run, requests);
+    let derives = compare_derives::run(run, requests);
+    let plans = compare_plans::run(run, requests);
+    let lines = compare_lines::run(run, requests);
     let differences = run.differences.0;
     let outcome = match differences {
         0 => "all equal".to_string(),
@@ -70,7 +87,8 @@ fn compare(count: u64, seed: u64) -> ExitCode {
     };
     say!(
         "compared with the Rust: {calls} setter calls, {checks} checks, {searches} searches, \
-         {outputs} outputs: {outcome} (seed {seed})"
+         {outputs} outputs, {configures} configures, {derives} derives, {plans} plans, \
+         {lines} lines: {outcome} (seed {seed})"
     );
     ExitCode::from(u8::from(differences > 0))
 }
