@@ -67,15 +67,17 @@ pub fn configured(rust: &Assertions, numbers: &Numbers) -> Result<Numbers, u32> 
 
 /// `calculate_clocks`: the clocks of the settings as they stand, or 8.
 pub fn derived(rust: &Assertions, numbers: &Numbers) -> Result<Clocks, u32> {
-    caught(rust, || {
-        let (clocks, [hpre, ppre1, ppre2, waits, overdrive, scale]) =
-            CFGR::of_numbers(numbers).derive();
-        let [sysclk, hclk, pclk1, pclk2, timclk1, timclk2, valid, hse, lse, lsi] = handed(clocks);
-        [
-            sysclk, hclk, pclk1, pclk2, timclk1, timclk2, hpre, ppre1, ppre2, waits, scale,
-            overdrive, valid, hse, lse, lsi,
-        ]
-    })
+    caught(rust, || clocks_of(&CFGR::of_numbers(numbers)))
+}
+
+/// The clocks as numbers; it panics where `calculate_clocks` does.
+pub fn clocks_of(cfgr: &CFGR) -> Clocks {
+    let (clocks, [hpre, ppre1, ppre2, waits, overdrive, scale]) = cfgr.derive();
+    let [sysclk, hclk, pclk1, pclk2, timclk1, timclk2, valid, hse, lse, lsi] = handed(clocks);
+    [
+        sysclk, hclk, pclk1, pclk2, timclk1, timclk2, hpre, ppre1, ppre2, waits, scale, overdrive,
+        valid, hse, lse, lsi,
+    ]
 }
 
 /// `freeze` itself, over modelled registers that are all 0: the clocks that it hands back, or

@@ -105,7 +105,8 @@ fn pclk_rows() -> Vec<Numbers> {
     let mut all = Vec::new();
     for source in sources() {
         let sysclk = sysclk_of(&source);
-        for (source, hclk) in [(source, sysclk), (asking(&source, at::HCLK, sysclk / 2), sysclk / 2)] {
+        let halved = asking(&source, at::HCLK, sysclk / 2);
+        for (source, hclk) in [(source, sysclk), (halved, sysclk / 2)] {
             for (flag, high) in [(at::PCLK1, 54 * MHZ), (at::PCLK2, 108 * MHZ)] {
                 let ends = PPRE_ENDS.map(|end| hclk / end);
                 let limits = [12_500_000, high, high / 6 * 5];
@@ -184,7 +185,8 @@ fn other_plls() -> Vec<Numbers> {
     let given = of_defaults(&[(at::M, 8)]);
     let planned = asking(&DEFAULTS, at::SYSCLK, 216 * MHZ);
     let mut all = Vec::new();
-    for base in [given, planned, changed(planned, &[(at::CHOICE, 1)]), changed(given, &[(at::CHOICE, 2)])] {
+    let with_choice = [changed(planned, &[(at::CHOICE, 1)]), changed(given, &[(at::CHOICE, 2)])];
+    for base in [given, planned].into_iter().chain(with_choice) {
         for n in [50, 95, 96, 97, 144, 145, 191, 192, 193, 215, 216, 217, 432] {
             for p in 0..4 {
                 let sai = changed(base, &[(at::USE_SAI, 1), (at::SAI_N, n), (at::SAI_P, p)]);
@@ -203,25 +205,29 @@ fn other_plls() -> Vec<Numbers> {
 /// Inputs for which floor(input/M) × N is just at or beside a limit of the VCO, or the P output
 /// at 48 MHz by its floor; the last 15 Hz of an input count here.
 fn other_pll_edges() -> Vec<Numbers> {
+    let limits = [(192, 3), (384, 3), (288, 2), (192, 1), (432, 3)];
     let mut all = Vec::new();
-    for (limit, p) in [(192 * MHZ, 3), (384 * MHZ, 3), (288 * MHZ, 2), (192 * MHZ, 1), (432 * MHZ, 3)] {
+    for (limit, p) in limits.map(|(mhz, p)| (mhz * MHZ, p)) {
         for n in [96, 97, 128, 192, 215, 240, 255, 256, 383, 384, 432] {
             for each in [limit / n, limit / n + 1] {
                 for m in [2, 7, 16, 25] {
-                    let hse = [(at::HSE_KIND, 2), (at::M, m)];
-                    let source = of_defaults(&hse);
                     let inputs = [each * m - 1, each * m, each * m + m - 1];
-                    let allowed = inputs.into_iter().filter(|hse| (MHZ..=50 * MHZ).contains(hse));
-                    all.extend(allowed.flat_map(|input| {
-                        let source = changed(source, &[(at::HSE, input), (at::SAI_N, n), (at::I2S_N, n)]);
-                        [
-                            changed(source, &[(at::USE_SAI, 1), (at::SAI_P, p)]),
-                            changed(source, &[(at::USE_I2S, 1)]),
-                        ]
-                    }));
+                    all.extend(inputs.into_iter().flat_map(|hse| edge(hse, m, n, p)));
                 }
             }
         }
     }
     all
+}
+
+/// Either PLL used with this N, and PLLSAI with this P; nothing for an input that is none.
+fn edge(hse: u32, m: u32, n: u32, p: u32) -> Vec<Numbers> {
+    if !(MHZ..=50 * MHZ).contains(&hse) {
+        return Vec::new();
+    }
+    let source = of_defaults(&[(at::HSE_KIND, 2), (at::HSE, hse), (at::M, m)]);
+    vec![
+        changed(source, &[(at::USE_SAI, 1), (at::SAI_N, n), (at::SAI_P, p)]),
+        changed(source, &[(at::USE_I2S, 1), (at::I2S_N, n)]),
+    ]
 }

@@ -40,7 +40,10 @@ impl Assertions {
                 within = name.trim_end_matches(" {");
             } else if let Some((_, rest)) = line.split_once("fn ") {
                 function = rest.split(['(', '<']).next().unwrap_or("");
-            } else if ["assert!(", "panic!("].iter().any(|&word| line.trim_start().starts_with(word)) {
+            } else if ["assert!(", "panic!("]
+                .iter()
+                .any(|&word| line.trim_start().starts_with(word))
+            {
                 let number = refusal_of(within, function, line);
                 lines.extend(number.map(|number| (index as u32 + 1, number)));
             }

@@ -15,8 +15,11 @@ use crate::ways::{self, p_divider};
 pub const HPRE_ENDS: [u32; 8] = [1, 2, 5, 11, 39, 95, 191, 383];
 pub const PPRE_ENDS: [u32; 4] = [1, 2, 6, 12];
 
-/// SYSCLKs in MHz where wait states, voltage scale, over-drive or caps change, or the limit is.
-pub const STEPS: [u32; 12] = [30, 60, 90, 120, 144, 150, 168, 180, 200, 210, 215, 216];
+/// SYSCLKs in MHz where wait states, voltage scale, over-drive or caps change, and the limit.
+pub const STEPS: [u32; 10] = [30, 60, 90, 120, 144, 150, 168, 180, 210, 216];
+
+/// VCO/2 where VCO/9 is the lower end of the Q window.
+const MISSED_SYSCLK: u32 = cases::USB.0 / 2 * 9;
 
 pub struct Requests {
     /// Inputs for which a search for Q alone is answered and the 48 MHz clock yet not valid.
@@ -42,8 +45,7 @@ impl Requests {
             numbers[flag..flag + 2].fill(0);
         }
         if random.once_in(16) {
-            numbers[at::HSE_KIND..=at::HSE].copy_from_slice(&[2, random.one_of(&self.missed)]);
-            numbers[at::CHOICE] = 1;
+            self.put_missed(random, &mut numbers);
         } else {
             put_input(random, &mut numbers);
             put_factors(random, &mut numbers);
@@ -51,10 +53,19 @@ impl Requests {
         }
         put_prescaled(rust, random, &mut numbers);
         put_other_plls(rust, random, &mut numbers);
-        if random.once_in(8) {
+        if random.once_in(6) {
             spoil(random, &mut numbers);
         }
         numbers
+    }
+
+    /// A search for Q that is answered with a clock that is not valid, for some beside one for P.
+    fn put_missed(&self, random: &mut Random, numbers: &mut Numbers) {
+        numbers[at::HSE_KIND..=at::HSE].copy_from_slice(&[2, random.one_of(&self.missed)]);
+        numbers[at::CHOICE] = 1;
+        if random.once_in(2) {
+            numbers[at::SYSCLK..at::SYSCLK + 2].copy_from_slice(&[1, MISSED_SYSCLK]);
+        }
     }
 }
 
@@ -101,7 +112,11 @@ fn put_factors(random: &mut Random, numbers: &mut Numbers) {
 /// An M and N that fit the input; with 48 MHz from PLLQ the VCO is near a multiple of that.
 fn some_pair(random: &mut Random, input: u32, choice: u32) -> (u32, u32) {
     let least = input.div_ceil(2_000_000).max(2);
-    let m = if random.once_in(3) { least } else { random.within(least, (input / 1_000_000).max(least)) };
+    let m = if random.once_in(3) {
+        least
+    } else {
+        random.within(least, (input / 1_000_000).max(least))
+    };
     let wanted = match choice {
         1 => 48_000_000 * u64::from(random.within(2, 9)),
         _ => u64::from(random.within(50_000_000, 432_000_000)),
@@ -121,7 +136,8 @@ fn put_sysclk(random: &mut Random, numbers: &mut Numbers) {
         2 | 3 => output(input, m, n, p_divider(p)),
         4 | 5 => {
             let (m, n) = some_pair(random, input, numbers[at::CHOICE]);
-            vco(input, m, n) / u64::from(random.one_of(&P_DIVIDERS)) + u64::from(random.below(3)) - 1
+            let below = vco(input, m, n) / u64::from(random.one_of(&P_DIVIDERS)) - 1;
+            below + u64::from(random.below(3))
         }
         6 => u64::from(cases::usual_sysclk(random)),
         _ => u64::from(random.one_of(&STEPS) * 1_000_000 - 17 + random.below(35)),
@@ -191,7 +207,7 @@ fn near(random: &mut Random, hertz: u32, most: u32) -> u32 {
     (hertz + random.below(2 * most + 1)).saturating_sub(most)
 }
 
-/// PLLSAI and PLLI2S: any settings, or a VCO at its limits or within, or 48 MHz, with the M planned.
+/// PLLSAI and PLLI2S: any settings or, with the M planned, a VCO about its limits or 48 MHz.
 fn put_other_plls(rust: &Assertions, random: &mut Random, numbers: &mut Numbers) {
     let Some((config, _)) = aimed_at(rust, numbers) else {
         return;
@@ -203,7 +219,8 @@ fn put_other_plls(rust: &Assertions, random: &mut Random, numbers: &mut Numbers)
     if random.below(8) > 0 {
         numbers[at::SAI_P] = random.one_of(&[3, 3, 3, 3, 2, 1, 0]);
         let wanted = 48_000_000 * p_divider(numbers[at::SAI_P]);
-        let vco = random.one_of(&[wanted, wanted, 192_000_000, 432_000_000, 384_000_000, 288_000_000]);
+        let limits = [192_000_000, 432_000_000, 384_000_000, 288_000_000];
+        let vco = if random.once_in(3) { wanted } else { random.one_of(&limits) };
         numbers[at::SAI_N] = (u64::from(vco) / each) as u32 + random.once_in(3) as u32;
     }
     if random.below(8) > 0 {

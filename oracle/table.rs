@@ -47,7 +47,8 @@ impl Table {
     /// One line for each group.
     pub fn print(&self, run: &mut Run) {
         for (group, rows) in &self.groups {
-            let row: Vec<String> = rows.iter().map(|(row, count)| format!("{row}: {count}")).collect();
+            let row: Vec<String> =
+                rows.iter().map(|(row, count)| format!("{row}: {count}")).collect();
             say!("{} by {group}: {}", self.what, row.join(", "));
         }
         if run.count >= ENOUGH {

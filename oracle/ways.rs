@@ -12,7 +12,10 @@ pub enum Way {
     Neither,
     /// The present M, N, P derive the wanted value, and no Q is sought: nothing changes.
     Kept,
-    Search { p: Window, q: Window },
+    Search {
+        p: Window,
+        q: Window,
+    },
 }
 
 /// HSE if given, else HSI, cut to a multiple of 16.
