@@ -2,7 +2,7 @@
 // Document 01, "Taken and left"; the names are those of rcc.rs where it has one.
 pub mod calls;
 pub mod codes;
-mod limits;
+pub mod limits;
 mod setters;
 
 ghost use mathlib.Core.Path.{_≡_};

@@ -23,7 +23,7 @@ pub(crate) fn outside(lo: u32, hi: u32, k: u8, x: u32) -> u8
 }
 
 // The first of two numbers that is a refusal.
-fn first_of(a: u8, b: u8) -> u8
+pub fn first_of(a: u8, b: u8) -> u8
     ensures { λ r. ⌜ r ≡ spec.firstOf a b ⌝ }
 {
     if a == 0 { b } else { a }

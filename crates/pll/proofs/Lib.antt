@@ -9,3 +9,4 @@ pub mod Answers
 pub mod Rules
 pub mod Skipping
 pub mod Theorems
+pub mod Settings

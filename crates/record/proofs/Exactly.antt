@@ -10,12 +10,12 @@ use lib.Dec.{eqb}
 use borrow.Author.Tests.{eqb-true, eqb-false}
 use Rattle.record.specs.Layout.{Rule, reserved-bits, child, code, blank, number, faultOf, layout, blankRun, blanks, breachOf}
 use Rattle.record.specs.Config.{cfgrOf}
-use Rattle.record.specs.Reading.{judgedOf, readOf}
+use Rattle.record.specs.Reading.{numberOf, judgedOf, readOf}
 use Rattle.record.specs.WellFormed.{WellFormed}
 use Rattle.record.specs.Lowest.{Lowest}
 use Rattle.kinds.specs.declared.CFGR.{CFGR}
 use Rattle.record.specs.declared.Fault.{Fault}
-use Rattle.record.specs.declared.Fault.the-variants.{Length}
+use Rattle.record.specs.declared.Fault.the-variants.{Length, Reserved, Code, Unasked}
 use Rattle.record.specs.declared.faults.Found.{Found}
 use Rattle.record.specs.declared.Reading.{Reading}
 use Rattle.record.specs.declared.Reading.the-variants.{Config, Malformed}
@@ -110,3 +110,10 @@ length-exactly b = length-seen b (read b)
 -- the fault of 64 bytes is a breach of the layout, and no breach is at a lower offset
 pub lowest-named : (b : List ℕ) (fault : Fault) → readOf b ≡ Malformed fault → length b ≡ 64 → Lowest b layout fault
 lowest-named b fault = named b (read b)
+
+-- whatever the breach, its number is 14
+pub malformed-14 : (fault : Fault) → numberOf fault ≡ 14
+malformed-14 Length = refl
+malformed-14 (Reserved at) = refl
+malformed-14 (Code at) = refl
+malformed-14 (Unasked at) = refl

@@ -7,9 +7,8 @@ use Rattle.kinds.specs.Calls.{callOf}
 use Rattle.kinds.specs.declared.CFGR.{CFGR}
 use Rattle.kinds.specs.declared.Setting.{Setting}
 use Rattle.kinds.specs.declared.calls.Setter.{Setter}
-use Rattle.record.specs.Reading.{numberOf}
+use Rattle.record.proofs.Exactly.{malformed-14}
 use Rattle.record.specs.declared.Fault.{Fault}
-use Rattle.record.specs.declared.Fault.the-variants.{Length, Reserved, Code, Unasked}
 use Rattle.record.specs.declared.Reading.{Reading}
 use Rattle.record.specs.declared.Reading.the-variants.{Config, Malformed}
 use Rattle.pll.specs.Walk.{searchOf}
@@ -23,12 +22,6 @@ use Rattle.woolturret.specs.Numbers.{numbersOf}
 use Rattle.woolturret.specs.Replies.{Replied, checkReply, callReply, setReply, searchReply, Told}
 use Rattle.woolturret.specs.declared.setters.Named.{Named}
 use Rattle.woolturret.specs.declared.setters.Named.the-variants.{Unknown, Call}
-
-malformed-14 : (f : Fault) → numberOf f ≡ 14
-malformed-14 Length = refl
-malformed-14 (Reserved at) = refl
-malformed-14 (Code at) = refl
-malformed-14 (Unasked at) = refl
 
 -- the check
 pub malformed-check : {x : Reading} {f : Fault} → x ≡ Malformed f → 14 ≡ checkReply x

@@ -1,0 +1,197 @@
+-- What is promised of derive, for every configuration; each is read off one view of the answer and the lemmas of the other files.
+use Prim.Native.Nat.{ℕ, _-_, _/_, _≤_, _<_}
+use mathlib.Core.Path.{_≡_, refl, subst}
+use mathlib.Core.Logic.{_⊎_, inl, inr, _↔_}
+use mathlib.Core.Bool.{Bool, true, false, cond}
+use lib.Dec.{leb, ltb, eqb, lit≤}
+use native.Mathlib.Omega.{arith}
+use borrow.Author.Tests.{eqb-true, eqb-false, ltb-true, ltb-false, leb-true, leb-false, lt-leb}
+use Rattle.kinds.specs.Limits.{checkOf}
+use Rattle.kinds.specs.Table.{Between, Refused, hse, hclk, sysclk as sysclk-asked, pclk1, pclk2, pllm, plln, pllq, pllsain, pllsaiq, plli2sn, plli2sr, plli2sq, Least, none as none-least, least as least-least, Checked}
+use Rattle.kinds.proofs.Check.{check-told, told-check, check-least, check-le}
+use Rattle.kinds.specs.declared.CFGR.{CFGR}
+use Rattle.clocks.specs.Derive.{sysclkOf, wantedOf, hpreOf, cap1Of, cap2Of, ahbFor, ahbOf, apb1Of, apb2Of, waitsOf, clocksOf, configOf, settledOf, derivedOf}
+use Rattle.clocks.specs.Numbers.{derivedNumber}
+use Rattle.clocks.specs.Refusals.{DeriveRefused, limit, sysclk, DeriveLeast, none, least}
+use Rattle.clocks.specs.Inner.{Sysclk}
+use Rattle.clocks.specs.declared.Clocks.{Clocks}
+use Rattle.clocks.specs.declared.InternalRCCConfig.{InternalRCCConfig}
+use Rattle.clocks.specs.declared.Derived.{Derived}
+use Rattle.clocks.specs.declared.Derived.the-variants.{Refused as NotDerived, At}
+use Rattle.clocks.proofs.Deriving.{sysclk-facts, hclk-range, hclk-facts}
+use Rattle.clocks.proofs.Table.{hpre-power}
+use Rattle.clocks.proofs.Caps.{pclk1-within, pclk2-within}
+
+-- ---- how an answer comes about
+data DerivedView (c : CFGR) : Derived → Type 0 where
+  limited : (checkOf c ≡ 0 → ⊥) → DerivedView c (NotDerived (checkOf c))
+  above : Checked c → 216000000 < sysclkOf c → DerivedView c (NotDerived 8)
+  given : Checked c → Sysclk (sysclkOf c) → DerivedView c (At (clocksOf c) (configOf c))
+
+derived-view : (c : CFGR) → DerivedView c (derivedOf c)
+unfolding derivedOf settledOf
+derived-view c = from (eqb (checkOf c) 0) refl
+  where
+    at : (t : Bool) → ltb 216000000 (sysclkOf c) ≡ t → Checked c → DerivedView c (cond t (NotDerived 8) (At (clocksOf c) (configOf c)))
+    at true e k = above k (ltb-true 216000000 (sysclkOf c) e)
+    at false e k = given k (sysclk-facts c k (ltb-false 216000000 (sysclkOf c) e))
+
+    from : (t : Bool) → eqb (checkOf c) 0 ≡ t → DerivedView c (cond t (cond (ltb 216000000 (sysclkOf c)) (NotDerived 8) (At (clocksOf c) (configOf c))) (NotDerived (checkOf c)))
+    from true e = at (ltb 216000000 (sysclkOf c)) refl (check-told c (eqb-true (checkOf c) 0 e))
+    from false e = limited (eqb-false (checkOf c) 0 e)
+
+-- ---- which number it is
+-- the table gives no 0
+some : (c : CFGR) (n : ℕ) → Refused c n → 1 ≤ n
+some c n (hse x) = lit≤ tt
+some c n (hclk x) = lit≤ tt
+some c n (sysclk-asked x) = lit≤ tt
+some c n (pclk1 x) = lit≤ tt
+some c n (pclk2 x) = lit≤ tt
+some c n (pllm x) = lit≤ tt
+some c n (plln x) = lit≤ tt
+some c n (pllq x) = lit≤ tt
+some c n (pllsain x) = lit≤ tt
+some c n (pllsaiq x) = lit≤ tt
+some c n (plli2sn x) = lit≤ tt
+some c n (plli2sr x) = lit≤ tt
+some c n (plli2sq x) = lit≤ tt
+
+-- and nothing where every limit is kept
+kept-none : (c : CFGR) → Checked c → (n : ℕ) → Refused c n → ⊥
+kept-none c k = at (checkOf c) (check-least c) (told-check c k)
+  where
+    at : (a : ℕ) → Least c a → a ≡ 0 → (n : ℕ) → Refused c n → ⊥
+    at a (none-least f) e = f
+    at a (least-least r f) e = absurd (omega (arith, some c a r))
+
+-- the number is the least that the table gives for derive, and 0 exactly where it gives none
+pub derive-least : (c : CFGR) → DeriveLeast c (derivedNumber (derivedOf c))
+derive-least c = from (derivedOf c) (derived-view c)
+  where
+    below : (a : ℕ) → a ≤ 6 → ((k : ℕ) → Refused c k → a ≤ k) → (k : ℕ) → DeriveRefused c k → a ≤ k
+    below a l f k (limit r) = f k r
+    below a l f k (sysclk h) = omega arith
+
+    limits : (a : ℕ) → Least c a → a ≤ 6 → (a ≡ 0 → ⊥) → DeriveLeast c a
+    limits a (none-least f) l n = absurd (n refl)
+    limits a (least-least r f) l n = least (limit r) (below a l f)
+
+    only : Checked c → (k : ℕ) → DeriveRefused c k → 8 ≤ k
+    only q k (limit r) = absurd (kept-none c q k r)
+    only q k (sysclk h) = lit≤ tt
+
+    never : Checked c → sysclkOf c ≤ 216000000 → (k : ℕ) → DeriveRefused c k → ⊥
+    never q l k (limit r) = kept-none c q k r
+    never q l k (sysclk h) = omega arith
+
+    from : (d : Derived) → DerivedView c d → DeriveLeast c (derivedNumber d)
+    from d (limited n) = limits (checkOf c) (check-least c) (check-le c) n
+    from d (above q h) = least (sysclk h) (only q)
+    from d (given q s) = none (never q (s .high))
+
+-- it accepts exactly if every limit is kept and SYSCLK is at most 216 MHz
+pub derive-accepts-exactly : (c : CFGR) → (derivedNumber (derivedOf c) ≡ 0) ↔ (Checked c × (sysclkOf c ≤ 216000000))
+derive-accepts-exactly c = from (derivedOf c) (derived-view c)
+  where
+    from : (d : Derived) → DerivedView c d → (derivedNumber d ≡ 0) ↔ (Checked c × (sysclkOf c ≤ 216000000))
+    from d (limited n) = (λ e. absurd (n e), λ w. absurd (n (told-check c (w .0))))
+    from d (above q h) = (λ e. absurd (omega arith), λ w. absurd (omega (arith, w .1)))
+    from d (given q s) = (λ e. (q, s .high), λ w. refl)
+
+-- it refuses with 8 exactly if every limit is kept and SYSCLK is above 216 MHz
+pub derive-refuses-with-8-exactly : (c : CFGR) → (derivedNumber (derivedOf c) ≡ 8) ↔ (Checked c × (216000000 < sysclkOf c))
+derive-refuses-with-8-exactly c = from (derivedOf c) (derived-view c)
+  where
+    from : (d : Derived) → DerivedView c d → (derivedNumber d ≡ 8) ↔ (Checked c × (216000000 < sysclkOf c))
+    from d (limited n) = (λ e. absurd (omega (arith, check-le c)), λ w. absurd (n (told-check c (w .0))))
+    from d (above q h) = (λ e. (q, h), λ w. refl)
+    from d (given q s) = (λ e. absurd (omega arith), λ w. absurd (omega (arith, w .1, s .high)))
+
+-- it gives no other number
+pub derive-gives-only : (c : CFGR) → (derivedNumber (derivedOf c) ≤ 6) ⊎ (derivedNumber (derivedOf c) ≡ 8)
+derive-gives-only c = from (derivedOf c) (derived-view c)
+  where
+    from : (d : Derived) → DerivedView c d → (derivedNumber d ≤ 6) ⊎ (derivedNumber d ≡ 8)
+    from d (limited n) = inl (check-le c)
+    from d (above q h) = inr refl
+    from d (given q s) = inl (lit≤ tt)
+
+-- ---- the buses
+module _ (c : CFGR) (k : Checked c) (y : Sysclk (sysclkOf c)) where
+  hclk-in : Between 1 (sysclkOf c) (ahbOf c .hclk .0)
+  unfolding ahbOf
+  hclk-in = hclk-range (sysclkOf c) (c .requests .hclk) y
+
+  pclk1-in : Between 1 (cap1Of (sysclkOf c)) (apb1Of c .pclk .0)
+  unfolding ahbOf apb1Of ahbFor
+  pclk1-in =
+      let s = sysclkOf c in
+      let q = c .requests .hclk in
+      pclk1-within s (hpreOf s (wantedOf s s q)) (c .requests .pclk1) y (hpre-power s (wantedOf s s q))
+      (hclk-facts s 45000000 54000000 _ q (c .requests .pclk1) (ahbFor s q) y refl refl (record { low = lit≤ tt; high = lit≤ tt }) (record { low = lit≤ tt; high = lit≤ tt }) (k .requests .pclk1))
+
+  pclk2-in : Between 1 (cap2Of (sysclkOf c)) (apb2Of c .pclk .0)
+  unfolding ahbOf apb2Of ahbFor
+  pclk2-in =
+      let s = sysclkOf c in
+      let q = c .requests .hclk in
+      pclk2-within s (hpreOf s (wantedOf s s q)) (c .requests .pclk2) y (hpre-power s (wantedOf s s q))
+      (hclk-facts s 90000000 108000000 _ q (c .requests .pclk2) (ahbFor s q) y refl refl (record { low = lit≤ tt; high = lit≤ tt }) (record { low = lit≤ tt; high = lit≤ tt }) (k .requests .pclk2))
+
+-- ---- wait states
+-- up to 216 MHz the ladder is (SYSCLK − 1) / 30,000,000
+pub ladder-is-arithmetic : (s : ℕ) → s ≤ 216000000 → waitsOf s ≡ (s - 1) / 30000000
+unfolding waitsOf
+ladder-is-arithmetic s h =
+    at (leb s 30000000) (leb s 60000000) (leb s 90000000) (leb s 120000000) (leb s 150000000) (leb s 180000000) (leb s 210000000) refl refl refl refl refl refl refl
+  where
+    at : (a b c d e f g : Bool) → leb s 30000000 ≡ a → leb s 60000000 ≡ b → leb s 90000000 ≡ c → leb s 120000000 ≡ d → leb s 150000000 ≡ e → leb s 180000000 ≡ f → leb s 210000000 ≡ g
+        → cond a 0 (cond b 1 (cond c 2 (cond d 3 (cond e 4 (cond f 5 (cond g 6 7)))))) ≡ (s - 1) / 30000000
+    at true b c d e f g p q r t u v w = omega (arith, leb-true s 30000000 p)
+    at false true c d e f g p q r t u v w = omega (arith, leb-false s 30000000 p, leb-true s 60000000 q)
+    at false false true d e f g p q r t u v w = omega (arith, leb-false s 60000000 q, leb-true s 90000000 r)
+    at false false false true e f g p q r t u v w = omega (arith, leb-false s 90000000 r, leb-true s 120000000 t)
+    at false false false false true f g p q r t u v w = omega (arith, leb-false s 120000000 t, leb-true s 150000000 u)
+    at false false false false false true g p q r t u v w = omega (arith, leb-false s 150000000 u, leb-true s 180000000 v)
+    at false false false false false false true p q r t u v w = omega (arith, leb-false s 180000000 v, leb-true s 210000000 w)
+    at false false false false false false false p q r t u v w = omega (arith, leb-false s 210000000 w)
+
+-- and above it is as for 216 MHz
+pub ladder-above : (s : ℕ) → 216000000 ≤ s → waitsOf s ≡ waitsOf 216000000
+unfolding waitsOf
+ladder-above s h =
+    rw (lt-leb s 30000000 (omega arith), lt-leb s 60000000 (omega arith), lt-leb s 90000000 (omega arith), lt-leb s 120000000 (omega arith), lt-leb s 150000000 (omega arith), lt-leb s 180000000 (omega arith), lt-leb s 210000000 (omega arith))
+
+-- ---- what it answers
+module _ (c : CFGR) (x : Clocks) (y : InternalRCCConfig) (e : derivedOf c ≡ At x y) where
+  -- what holds of the clocks and codes of a configuration that is accepted holds of the answer
+  carried : (P : Clocks → InternalRCCConfig → Type 0) → (Checked c → Sysclk (sysclkOf c) → P (clocksOf c) (configOf c)) → P x y
+  carried P f = from (derivedOf c) (derived-view c) e
+    where
+      from : (d : Derived) → DerivedView c d → d ≡ At x y → P x y
+      from d (limited n) h = absurd (let z : _≡_ {A = ℕ} 0 1 = cc in omega arith)
+      from d (above q g) h = absurd (let z : _≡_ {A = ℕ} 0 1 = cc in omega arith)
+      from d (given q s) h =
+          let a : clocksOf c ≡ x = cc in
+          let b : configOf c ≡ y = cc in
+          subst (λ (z : InternalRCCConfig). P x z) b (subst (λ (z : Clocks). P z (configOf c)) a (f q s))
+
+  -- HCLK is above 0 and at most SYSCLK
+  pub hclk-within-sysclk : Between 1 (x .sysclk .0) (x .hclk .0)
+  unfolding clocksOf
+  hclk-within-sysclk = carried (λ z w. Between 1 (z .sysclk .0) (z .hclk .0)) (hclk-in c)
+
+  -- PCLK1 and PCLK2 are above 0 and within document 01's caps
+  pub pclk1-within-cap : Between 1 (cap1Of (x .sysclk .0)) (x .pclk1 .0)
+  unfolding clocksOf
+  pclk1-within-cap = carried (λ z w. Between 1 (cap1Of (z .sysclk .0)) (z .pclk1 .0)) (pclk1-in c)
+
+  pub pclk2-within-cap : Between 1 (cap2Of (x .sysclk .0)) (x .pclk2 .0)
+  unfolding clocksOf
+  pclk2-within-cap = carried (λ z w. Between 1 (cap2Of (z .sysclk .0)) (z .pclk2 .0)) (pclk2-in c)
+
+  -- the wait states are (SYSCLK − 1) / 30,000,000
+  pub waits-by-arithmetic : y .«flash_waitstates» ≡ (x .sysclk .0 - 1) / 30000000
+  unfolding clocksOf configOf
+  waits-by-arithmetic = carried (λ z w. w .«flash_waitstates» ≡ (z .sysclk .0 - 1) / 30000000) (λ k s. ladder-is-arithmetic (sysclkOf c) (s .high))

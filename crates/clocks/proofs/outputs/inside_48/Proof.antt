@@ -1,0 +1,13 @@
+-- `outputs::inside_48` meets its contract: its two tests are the definition's.
+use borrow.Author.Tests.{le-leb, lt-leb}
+use Rattle.clocks.proofs.outputs.inside_48.Statement.{statement}
+use Rattle.clocks.proofs.outputs.inside_48.Tie as tie
+
+returns : tie.Need-returns
+returns c = simp (le-leb _ _ (c .if1 .taken))
+
+returns-2 : tie.Need-returns-2
+returns-2 c = simp (lt-leb _ _ (c .if1 .left))
+
+pub inside-48-spec : {M : Type 1} → statement M
+inside-48-spec = tie.close (tie.spec returns returns-2)

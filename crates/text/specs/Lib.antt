@@ -1,0 +1,5 @@
+-- What a reader of this crate must believe.
+pub mod Decimal
+pub mod Line
+pub mod Placing
+pub mod Back
