@@ -3,3 +3,4 @@ pub mod Numbers
 pub mod Named
 pub mod Answers
 pub mod Replies
+pub mod Plans

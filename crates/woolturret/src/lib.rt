@@ -1,12 +1,16 @@
 // Functions for C: record bytes and numbers in, numbers out. include/woolturret.h declares them.
 mod answers;
 mod numbers;
+mod plans;
 mod setters;
 
+use clocks::calculate_clocks;
+use configure::pll_configure;
 use kinds::CFGR;
 use kinds::Divider;
 use kinds::Factor;
 use kinds::Hertz;
+use plan::plan;
 use pll::Outcome;
 use record::Reading;
 use setters::Named;
@@ -16,6 +20,7 @@ ghost use Rattle.pll.specs.Fixed.{outputOf};
 ghost use Rattle.pll.specs.Walk.{searchOf};
 ghost use Rattle.woolturret.specs.Answers.{windowOf};
 ghost use Rattle.woolturret.specs.Replies.{Replied, checkReply, setReply, callReply, searchReply, Told};
+ghost use Rattle.woolturret.specs.Plans.{Configures, configureReply, Derives, deriveReply, Plans, planReply};
 ghost use Rattle.woolturret.specs.Named.{namedOf};
 
 // The check of 1 to 6 of the configuration that a record holds: 0 where nothing is refused, 14 for a malformed record.
@@ -96,5 +101,56 @@ pub extern "C" fn woolturret_output(input: u32, m: u32, n: u32, d: u32, out: &mu
             *out = hertz;
             0
         }
+    }
+}
+
+// pll_configure of the configuration that a record holds: its number, the configuration as planned in config, the search's passes.
+// Refused, config is as it was; passes are told in every case, 0 where no search ran.
+#[no_mangle]
+pub extern "C" fn woolturret_configure(
+    bytes: &[u8],
+    config: &mut [u32; 30],
+    passes: &mut u32,
+) -> u32
+    ensures { λ r. ⌜ Configures (configureReply (readOf (now (bytes .entry))) (now (config .entry))) r (now (config .exit)) (now (passes .exit)) ⌝ }
+{
+    match record::read_record(bytes) {
+        Reading::Malformed(_) => {
+            *passes = 0;
+            14
+        }
+        Reading::Config(cfgr) => plans::configured(pll_configure(cfgr), config, passes),
+    }
+}
+
+// calculate_clocks of the configuration that a record holds, its settings as they stand: its number, and the clocks and field codes
+// in clocks; refused, clocks is as it was.
+#[no_mangle]
+pub extern "C" fn woolturret_derive(bytes: &[u8], clocks: &mut [u32; 16]) -> u32
+    ensures { λ r. ⌜ Derives (deriveReply (readOf (now (bytes .entry))) (now (clocks .entry))) r (now (clocks .exit)) ⌝ }
+{
+    match record::read_record(bytes) {
+        Reading::Malformed(_) => 14,
+        Reading::Config(cfgr) => plans::derived(calculate_clocks(cfgr), clocks),
+    }
+}
+
+// The plan of the configuration that a record holds: its number, the configuration as planned, its clocks and field codes, the passes.
+// Refused, config and clocks are as they were; passes are told in every case, 0 where no search ran.
+#[no_mangle]
+pub extern "C" fn woolturret_plan(
+    bytes: &[u8],
+    config: &mut [u32; 30],
+    clocks: &mut [u32; 16],
+    passes: &mut u32,
+) -> u32
+    ensures { λ r. ⌜ Plans (planReply (readOf (now (bytes .entry))) (now (config .entry)) (now (clocks .entry))) r (now (config .exit)) (now (clocks .exit)) (now (passes .exit)) ⌝ }
+{
+    match record::read_record(bytes) {
+        Reading::Malformed(_) => {
+            *passes = 0;
+            14
+        }
+        Reading::Config(cfgr) => plans::planned(plan(cfgr), config, clocks, passes),
     }
 }

@@ -11,7 +11,7 @@ use kinds::codes::pllp_code;
 ghost use mathlib.Core.Path.{_≡_};
 ghost use Rattle.woolturret.specs.Numbers as spec;
 
-fn flag(on: bool) -> u32
+pub(crate) fn flag(on: bool) -> u32
     ensures { λ r. ⌜ r ≡ spec.flagOf on ⌝ }
 {
     if on { 1 } else { 0 }
@@ -56,7 +56,7 @@ fn asked(q: Request) -> u32
     }
 }
 
-fn asked_hertz(q: Request) -> u32
+pub(crate) fn asked_hertz(q: Request) -> u32
     ensures { λ r. ⌜ r ≡ spec.askedHertz q ⌝ }
 {
     match q {
