@@ -9,10 +9,14 @@
  *   5 PCLK2 request outside 12.5 to 108 MHz
  *   6 M outside 2..63, any N outside 50..432, any Q outside 2..15, PLLI2S R outside 2..7
  *   7 the search has no answer: no window is given, or no M and N meet the windows
+ *   8 derived SYSCLK above 216 MHz (of settings as they stand; a plan never has it)
+ *   9 PLLSAI used, its VCO outside 192 to 432 MHz
+ *  10 PLLSAI used, its P output above 48 MHz
+ *  11 PLLI2S used, its VCO outside 192 to 432 MHz
  *  14 malformed request record; of woolturret_set also a setter or a code that there is not
  * All ends are inclusive; of several numbers the least is given, 14 before any.
- * What can't be checked here is asked of the caller: a pointer points to as many elements as its declaration says, and bytes and
- * out do not overlap.
+ * What can't be checked here is asked of the caller: a pointer points to as many elements as its declaration says, and what is
+ * written overlaps neither bytes nor anything else that is written.
  */
 #ifndef WOOLTURRET_H
 #define WOOLTURRET_H
@@ -62,6 +66,29 @@ uint32_t woolturret_check(const uint8_t *bytes, size_t length);
  *   use_pll, 48 MHz choice (0 absent, 1 PLLQ, 2 PLLSAI), M, N, P code, Q;
  *   use_pllsai, N, P code, Q;   use_plli2s, N, R, Q;   MCO1, MCO1PRE, MCO2, MCO2PRE. */
 uint32_t woolturret_set(const uint8_t *bytes, size_t length, uint32_t setter, uint32_t a, uint32_t b, uint32_t out[30]);
+
+/* Whether the PLL is used and with which settings: the Rust's pll_configure on the configuration that a request record holds.
+ * Answers 0 with the configuration as planned in config, numbered as woolturret_set's out, or 1 to 7 or 14 with config as it was.
+ * passes is always written: the passes of the search, as woolturret_search has them, and 0 where no search ran. */
+uint32_t woolturret_configure(const uint8_t *bytes, size_t length, uint32_t config[30], uint32_t *passes);
+
+/* The clocks that the configuration of a request record gives as it stands: the Rust's calculate_clocks. Nothing is searched for.
+ * Answers 0 with the clocks, or 1 to 6, 8 or 14 with clocks as it was. The numbers of clocks:
+ *   SYSCLK, HCLK, PCLK1, PCLK2, timer clock of bus 1, timer clock of bus 2 (all in hertz);
+ *   field codes of HPRE, PPRE1, PPRE2;   wait states, voltage scale (1 to 3), over-drive (0, 1), 48 MHz clock valid (0, 1);
+ *   HSE as given, LSE (32768), LSI (32000), each 0 where absent. */
+uint32_t woolturret_derive(const uint8_t *bytes, size_t length, uint32_t clocks[16]);
+
+/* A whole plan: woolturret_configure, then the clocks of what it planned, then 9 to 11 with the M planned.
+ * Answers 0 with config and clocks, or 1 to 7, 9 to 11 or 14 with both as they were.
+ * passes is always written: those of the search wherever one ran, also where 9 to 11 refuse. */
+uint32_t woolturret_plan(const uint8_t *bytes, size_t length, uint32_t config[30], uint32_t clocks[16], uint32_t *passes);
+
+/* The line that the program writes for a record, at the start of out: "ok" and 14 numbers (SYSCLK, HCLK, PCLK1, PCLK2, both timer
+ * clocks, M, N, P, Q, wait states, scale, over-drive, 48 MHz valid), or "no" and woolturret_plan's refusal; then a newline.
+ * Bytes of any length have one: "no 14" for any but 64. Answers the line's length; the rest of out is as it was, so no zero
+ * byte ends it. */
+uint32_t woolturret_line(const uint8_t *bytes, size_t length, uint8_t out[157]);
 
 #ifdef __cplusplus
 }

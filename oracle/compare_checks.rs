@@ -1,31 +1,13 @@
 //! Comparison 2: the check of a record, ours against the least refusal number
 //! among the Rust's assertions when each field is put through its setter.
 
-use hal::rcc::CFGR;
-
+use crate::answers;
 use crate::boundary_records;
-use crate::configuration::{self, at, Numbers};
+use crate::configuration;
 use crate::library;
 use crate::records;
 use crate::run::Run;
-use crate::setters::{Call, HSE};
 use crate::tally::Tally;
-
-/// Setters of the requests, and the number that is the request's flag.
-const REQUEST_SETTERS: [(u32, usize); 4] =
-    [(1, at::HCLK), (2, at::SYSCLK), (3, at::PCLK1), (4, at::PCLK2)];
-
-/// Setters of the factors and dividers, and the number that they set.
-const FACTOR_SETTERS: [(u32, usize); 8] = [
-    (9, at::M),
-    (10, at::N),
-    (12, at::Q),
-    (14, at::SAI_N),
-    (16, at::SAI_Q),
-    (18, at::I2S_N),
-    (19, at::I2S_Q),
-    (20, at::I2S_R),
-];
 
 struct Checks<'a> {
     run: &'a mut Run,
@@ -58,7 +40,7 @@ pub fn run(run: &mut Run) -> u64 {
 
 impl Checks<'_> {
     fn compare(&mut self, record: &[u8]) {
-        let refusals = self.refusals(record);
+        let refusals = answers::refusals(&self.run.assertions, record);
         let ours = library::check(record);
         self.tally.count(ours);
         self.several += u64::from(refusals.iter().min() != refusals.iter().max());
@@ -66,26 +48,4 @@ impl Checks<'_> {
         let what = || format!("check of the record {record:02x?}");
         self.run.differences.compare(ours, least, what);
     }
-
-    /// Every refusal that a record deserves.
-    fn refusals(&self, record: &[u8]) -> Vec<u32> {
-        let Some(numbers) = configuration::read(record) else {
-            return vec![14];
-        };
-        let set = |call: &Call| self.run.rust(|| call.of_the_rust(CFGR::defaults())).err();
-        calls(&numbers).iter().filter_map(set).collect()
-    }
-}
-
-/// The setter calls that give a configuration the values which a setter can refuse.
-fn calls(numbers: &Numbers) -> Vec<Call> {
-    let call = |setter, a| Call { setter, a, b: 0 };
-    let requested = REQUEST_SETTERS.iter().filter(|(_, flag)| numbers[*flag] != 0);
-    let mut calls: Vec<Call> =
-        requested.map(|&(setter, flag)| call(setter, numbers[flag + 1])).collect();
-    calls.extend(FACTOR_SETTERS.map(|(setter, number)| call(setter, numbers[number])));
-    if let Some(mode) = numbers[at::HSE_KIND].checked_sub(1) {
-        calls.push(Call { setter: HSE, a: numbers[at::HSE], b: mode });
-    }
-    calls
 }

@@ -106,8 +106,7 @@ pub fn read(record: &[u8]) -> Option<Numbers> {
         return None;
     }
     let flags = u16::from_le_bytes([record[0], record[1]]);
-    let reserved = [&record[13..14], &record[40..]].concat();
-    if flags >> 14 != 0 || reserved.iter().any(|&byte| byte != 0) {
+    if flags >> 14 != 0 || record[13] != 0 || record[40..].iter().any(|&byte| byte != 0) {
         return None;
     }
     let mut numbers = [0; 30];

@@ -1,60 +1,96 @@
-//! The host: runs the static library beside the unchanged Rust. Built for comparing it is
-//! called as `compare COUNT SEED`, built with the cfg `bench` as `bench`.
+//! The host: runs the static library beside the unchanged Rust, and writes what the Rust alone
+//! answers. `USAGE` says how it is called.
 
 /// A line to standard output; where nobody takes it any more, the run ends.
 macro_rules! say {
     ($($words:tt)*) => { crate::said(format_args!($($words)*)) };
 }
 
+mod answers;
 mod bench;
+mod bench_plans;
 mod boundary_cases;
 mod boundary_records;
+mod boundary_requests;
 mod cases;
+mod clocks;
 mod compare_checks;
+mod compare_configures;
+mod compare_derives;
+mod compare_lines;
 mod compare_outputs;
+mod compare_plans;
 mod compare_searches;
 mod compare_setters;
 mod configuration;
+mod fleet;
 mod library;
+mod lines;
 mod panics;
 mod random;
 mod records;
+mod requests;
+mod rows;
 mod run;
+mod rust_program;
+mod sample;
 mod self_test;
 mod setters;
+mod table;
 mod tally;
 mod walk;
+mod ways;
 
 use std::fmt::Arguments;
-use std::io::Write;
+use std::fs;
+use std::io::{self, Read, Write};
+use std::path::Path;
 use std::process::ExitCode;
 
+use panics::Assertions;
+use requests::Requests;
 use run::Run;
 
+const USAGE: &str = "usage: host WORDS
+  compare COUNT SEED          the library beside the Rust
+  sample FILE                 the records of the gate's sample
+  fleet COUNT SEED FILE       the records of a fleet
+  lines                       the Rust's lines for the records of standard input
+  bench FOLDER PLANNER..      times, PLANNER being the words that start the program
+  plans                       the program over the Rust, to be timed";
+
 fn main() -> ExitCode {
-    let arguments: Vec<String> = std::env::args().skip(1).collect();
-    let numbers: Result<Vec<u64>, _> = arguments.iter().map(|number| number.parse()).collect();
-    match numbers.as_deref() {
-        Ok([]) if cfg!(bench) => {
-            bench::run();
-            ExitCode::SUCCESS
-        }
-        Ok([count, seed]) if !cfg!(bench) => compare(*count, *seed),
+    let words: Vec<String> = std::env::args().skip(1).collect();
+    let first: Vec<&str> = words.iter().map(String::as_str).collect();
+    let number = |place: usize| words.get(place).and_then(|word| word.parse::<u64>().ok());
+    let done = match (first.as_slice(), number(1), number(2)) {
+        (["compare", _, _], Some(count), Some(seed)) => Ok(compare(count, seed)),
+        (["sample", file], ..) => sample(file),
+        (["fleet", _, _, file], Some(count), Some(seed)) => fleet(count, seed, file),
+        (["lines"], ..) => lines(),
+        (["bench", folder, _, ..], ..) => bench(Path::new(folder), &words[2..]),
+        (["plans"], ..) => rust_program::run().map(|()| true),
         _ => {
-            eprintln!("usage: {}", if cfg!(bench) { "bench" } else { "compare COUNT SEED" });
-            ExitCode::from(2)
+            eprintln!("{USAGE}");
+            return ExitCode::from(2);
         }
-    }
+    };
+    let went_well = done.unwrap_or_else(|error| {
+        eprintln!("host {}: {error}", words.join(" "));
+        false
+    });
+    ExitCode::from(u8::from(!went_well))
 }
 
 fn said(words: Arguments) {
-    if writeln!(std::io::stdout(), "{words}").is_err() {
+    if writeln!(io::stdout(), "{words}").is_err() {
         std::process::exit(1);
     }
 }
 
-/// The boundary lists whole and `count` random cases in each of the four comparisons.
-fn compare(count: u64, seed: u64) -> ExitCode {
+/// The boundary lists whole and `count` random cases in each of the eight comparisons; answers
+/// whether all were equal.
+fn compare(count: u64, seed: u64) -> bool {
     panics::install();
     let run = &mut Run::new(count, seed);
     self_test::run(&run.assertions, &mut run.differences);
@@ -62,6 +98,11 @@ fn compare(count: u64, seed: u64) -> ExitCode {
     let checks = compare_checks::run(run);
     let searches = compare_searches::run(run);
     let outputs = compare_outputs::run(run);
+    let requests = &Requests::new();
+    let configures = compare_configures::run(run, requests);
+    let derives = compare_derives::run(run, requests);
+    let plans = compare_plans::run(run, requests);
+    let lines = compare_lines::run(run, requests);
     let differences = run.differences.0;
     let outcome = match differences {
         0 => "all equal".to_string(),
@@ -70,7 +111,37 @@ fn compare(count: u64, seed: u64) -> ExitCode {
     };
     say!(
         "compared with the Rust: {calls} setter calls, {checks} checks, {searches} searches, \
-         {outputs} outputs: {outcome} (seed {seed})"
+         {outputs} outputs, {configures} configures, {derives} derives, {plans} plans, \
+         {lines} lines: {outcome} (seed {seed})"
     );
-    ExitCode::from(u8::from(differences > 0))
+    differences == 0
+}
+
+fn sample(file: &str) -> io::Result<bool> {
+    panics::install();
+    match sample::records(&Assertions::of_the_rust()) {
+        Ok(records) => fs::write(file, records).map(|()| true),
+        Err(missing) => {
+            eprintln!("the sample has no record for {missing:?}");
+            Ok(false)
+        }
+    }
+}
+
+fn fleet(count: u64, seed: u64, file: &str) -> io::Result<bool> {
+    panics::install();
+    fs::write(file, fleet::records(&Assertions::of_the_rust(), count, seed)).map(|()| true)
+}
+
+fn lines() -> io::Result<bool> {
+    panics::install();
+    let mut records = Vec::new();
+    io::stdin().read_to_end(&mut records)?;
+    let lines = lines::of_records(&Assertions::of_the_rust(), &records);
+    io::stdout().write_all(lines.as_bytes()).map(|()| true)
+}
+
+fn bench(folder: &Path, planner: &[String]) -> io::Result<bool> {
+    bench::run();
+    bench_plans::run(folder, planner)
 }

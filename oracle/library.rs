@@ -1,12 +1,18 @@
 //! The C functions of the static library, declared once, behind safe functions
 //! that also notice an answer written where none belongs.
 
+use crate::clocks::Clocks;
 use crate::configuration::Numbers;
 
 /// What an answer's numbers hold before a call, to see which are written.
 pub const UNTOUCHED: u32 = 0xA5A5_5A5A;
 
 pub const UNTOUCHED_HERTZ: u64 = 0xA5A5_5A5A_A5A5_5A5A;
+
+pub const UNTOUCHED_BYTE: u8 = 0xA5;
+
+/// The longest line: `ok`, 14 numbers of ten digits with a space before each, a newline.
+pub const LINE: usize = 157;
 
 pub type Window = Option<(u32, u32)>;
 
@@ -32,6 +38,21 @@ mod c {
             b: u32,
             out: *mut u32,
         ) -> u32;
+        pub fn woolturret_configure(
+            record: *const u8,
+            length: usize,
+            config: *mut u32,
+            passes: *mut u32,
+        ) -> u32;
+        pub fn woolturret_derive(record: *const u8, length: usize, clocks: *mut u32) -> u32;
+        pub fn woolturret_plan(
+            record: *const u8,
+            length: usize,
+            config: *mut u32,
+            clocks: *mut u32,
+            passes: *mut u32,
+        ) -> u32;
+        pub fn woolturret_line(record: *const u8, length: usize, out: *mut u8) -> u32;
     }
 }
 
@@ -78,5 +99,53 @@ pub fn set(record: &[u8], setter: u32, a: u32, b: u32) -> (u32, Numbers) {
     // `out` is as long as the function writes.
     let answer =
         unsafe { c::woolturret_set(record.as_ptr(), record.len(), setter, a, b, out.as_mut_ptr()) };
+    (answer, out)
+}
+
+/// The refusal, the configuration as planned, and the passes.
+pub fn configure(record: &[u8]) -> (u32, Numbers, u32) {
+    let (mut config, mut passes) = ([UNTOUCHED; 30], UNTOUCHED);
+    // SAFETY: pointer and length are those of one slice, which is only read, and
+    // `config` and `passes` are as long as the function writes.
+    let answer = unsafe {
+        let length = record.len();
+        c::woolturret_configure(record.as_ptr(), length, config.as_mut_ptr(), &mut passes)
+    };
+    (answer, config, passes)
+}
+
+/// The refusal, and the clocks of the settings as they stand.
+pub fn derive(record: &[u8]) -> (u32, Clocks) {
+    let mut clocks = [UNTOUCHED; 16];
+    // SAFETY: pointer and length are those of one slice, which is only read, and
+    // `clocks` is as long as the function writes.
+    let answer =
+        unsafe { c::woolturret_derive(record.as_ptr(), record.len(), clocks.as_mut_ptr()) };
+    (answer, clocks)
+}
+
+/// The refusal, the configuration as planned, its clocks, and the passes.
+pub fn plan(record: &[u8]) -> (u32, Numbers, Clocks, u32) {
+    let (mut config, mut clocks, mut passes) = ([UNTOUCHED; 30], [UNTOUCHED; 16], UNTOUCHED);
+    // SAFETY: pointer and length are those of one slice, which is only read, and
+    // `config`, `clocks` and `passes` are as long as the function writes.
+    let answer = unsafe {
+        c::woolturret_plan(
+            record.as_ptr(),
+            record.len(),
+            config.as_mut_ptr(),
+            clocks.as_mut_ptr(),
+            &mut passes,
+        )
+    };
+    (answer, config, clocks, passes)
+}
+
+/// The length of the line, and the buffer that it stands in.
+pub fn line(record: &[u8]) -> (u32, [u8; LINE]) {
+    let mut out = [UNTOUCHED_BYTE; LINE];
+    // SAFETY: pointer and length are those of one slice, which is only read, and
+    // `out` is as long as the function writes.
+    let answer = unsafe { c::woolturret_line(record.as_ptr(), record.len(), out.as_mut_ptr()) };
     (answer, out)
 }

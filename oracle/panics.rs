@@ -26,11 +26,12 @@ pub fn caught<T>(assertions: &Assertions, call: impl FnOnce() -> T) -> Result<T,
     result.map_err(|_| assertions.number(line.unwrap_or(0)))
 }
 
-/// The lines of rcc.rs with a setter's assertion or that on SYSCLK, and their refusal numbers.
+/// The lines of rcc.rs with an assertion or panic that a refusal stands for, and its number.
 pub struct Assertions(Vec<(u32, u32)>);
 
 impl Assertions {
-    /// Reads them off the text of rcc.rs: each `assert!`, by the function it stands in.
+    /// Reads them off the text of rcc.rs: each `assert!` and `panic!`, by the function it stands
+    /// in and, where that has several numbers, by what it looks at.
     pub fn of_the_rust() -> Self {
         let mut lines = Vec::new();
         let (mut within, mut function) = ("", "");
@@ -39,8 +40,11 @@ impl Assertions {
                 within = name.trim_end_matches(" {");
             } else if let Some((_, rest)) = line.split_once("fn ") {
                 function = rest.split(['(', '<']).next().unwrap_or("");
-            } else if line.trim_start().starts_with("assert!(") {
-                let number = refusal_of(within, function);
+            } else if ["assert!(", "panic!("]
+                .iter()
+                .any(|&word| line.trim_start().starts_with(word))
+            {
+                let number = refusal_of(within, function, line);
                 lines.extend(number.map(|number| (index as u32 + 1, number)));
             }
         }
@@ -54,14 +58,17 @@ impl Assertions {
         known.map_or(10_000 + line, |(_, number)| *number)
     }
 
-    /// How many assertions each refusal number has.
-    pub fn counts(&self) -> [usize; 7] {
-        [0, 1, 2, 3, 4, 5, 6].map(|n| self.0.iter().filter(|(_, number)| *number == n).count())
+    /// How many lines each refusal number from 0 to 11 has.
+    pub fn counts(&self) -> [usize; 12] {
+        let mut counts = [0; 12];
+        self.0.iter().for_each(|(_, number)| counts[*number as usize] += 1);
+        counts
     }
 }
 
-/// Document 01's refusal number for the assertion in a function of rcc.rs.
-fn refusal_of(within: &str, function: &str) -> Option<u32> {
+/// Document 01's refusal number for a line with an assertion in a function of rcc.rs. The
+/// assertions on PLLI2S's R and Q outputs have none: document 01 says that they can't fail.
+fn refusal_of(within: &str, function: &str, line: &str) -> Option<u32> {
     Some(match (within, function) {
         ("HSEClock", "new") => 1,
         ("CFGR", "hclk") => 2,
@@ -71,7 +78,11 @@ fn refusal_of(within: &str, function: &str) -> Option<u32> {
         ("CFGR", "pllm" | "plln" | "pllq") => 6,
         ("CFGR", "pllsain" | "pllsaiq") => 6,
         ("CFGR", "plli2sn" | "plli2sq" | "plli2sr") => 6,
+        ("CFGR", "pll_configure") => 7,
         ("CFGR", "calculate_clocks") => 8,
+        ("CFGR", "freeze") if line.contains("pllsain_freq") => 9,
+        ("CFGR", "freeze") if line.contains("pllsaip_freq") => 10,
+        ("CFGR", "freeze") if line.contains("plli2sn_freq") => 11,
         _ => return None,
     })
 }

@@ -64,6 +64,16 @@ const CODES: [(usize, u32); 12] = [
 /// a few that may be beyond, some all of them: so no refusal hides behind a lesser one.
 pub fn random_configuration(random: &mut Random) -> Numbers {
     let doubtful = random.one_of(&[0, 12, 12, 4, 1]);
+    with_doubtful(random, doubtful)
+}
+
+/// A configuration with every value within its limits.
+pub fn random_within_limits(random: &mut Random) -> Numbers {
+    with_doubtful(random, 0)
+}
+
+/// A configuration in which one of so many values may be beyond its limits, 0 for none.
+fn with_doubtful(random: &mut Random, doubtful: u32) -> Numbers {
     let value = |random: &mut Random, low, high, largest| {
         if doubtful > 0 && random.once_in(doubtful) {
             random.around(low, high) & largest

@@ -24,7 +24,7 @@ pub fn run(assertions: &Assertions, differences: &mut Differences) {
         differences.compare(got, expected, || format!("self-test, {what}"));
     };
     let counts = format!("{:?}", assertions.counts());
-    hold("assertions by refusal number", counts, "[0, 1, 1, 1, 1, 1, 8]".into());
+    hold("assertions by refusal number", counts, "[0, 1, 1, 1, 1, 1, 8, 1, 1, 1, 1, 1]".into());
     let defaults = format!("{:?}", CFGR::defaults().numbers());
     hold("the Rust's defaults", defaults, format!("{:?}", records::DEFAULTS));
     hold("a plan", planned(), "[8, 216, 0, 9] 216000000 [0, 5, 4, 7, 1, 1] true".into());

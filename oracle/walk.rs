@@ -16,6 +16,11 @@ pub fn vco(f: u32, m: u32, n: u32) -> u64 {
     16 * (u64::from(f / 16) * u64::from(n) * r(m) / (1 << 30))
 }
 
+/// 16 × floor(V × r(d) / 2^30).
+pub fn output(f: u32, m: u32, n: u32, d: u32) -> u64 {
+    16 * (vco(f, m, n) / 16 * r(d) / (1 << 30))
+}
+
 /// The largest divider whose output lies in the window.
 fn largest(dividers: &[u32], vco: u64, (low, high): (u32, u32)) -> Option<u32> {
     let inside = |d: &&u32| (u64::from(low)..=u64::from(high)).contains(&(vco / u64::from(**d)));

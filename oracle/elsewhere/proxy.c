@@ -61,12 +61,11 @@ static void put_bytes(struct call *c, const uint8_t *bytes, size_t length)
     memcpy(c->bytes, bytes, length < MOST_BYTES ? length : MOST_BYTES);
 }
 
-/* out goes there and comes back, so that a number which the library leaves alone is left alone here. */
-static uint32_t ask_with(struct call *c, uint32_t *out, size_t count)
+static uint32_t ask_with_out(struct call *c, uint32_t *out, size_t count)
 {
-    memcpy(c->out, out, count * sizeof *out);
+    memcpy(c->lent.out, out, count * sizeof *out);
     struct reply r = ask(c);
-    memcpy(out, r.out, count * sizeof *out);
+    memcpy(out, r.lent.out, count * sizeof *out);
     return r.answer;
 }
 
@@ -74,14 +73,14 @@ uint32_t woolturret_search(uint32_t input, bool p, uint32_t pmin, uint32_t pmax,
                            uint32_t out[5])
 {
     struct call c = {.function = SEARCH, .numbers = {input, p, pmin, pmax, q, qmin, qmax}};
-    return ask_with(&c, out, 5);
+    return ask_with_out(&c, out, 5);
 }
 
 uint32_t woolturret_output(uint32_t input, uint32_t m, uint32_t n, uint32_t d, uint64_t *out)
 {
-    struct call c = {.function = OUTPUT, .numbers = {input, m, n, d}, .hertz = *out};
+    struct call c = {.function = OUTPUT, .numbers = {input, m, n, d}, .lent.hertz = *out};
     struct reply r = ask(&c);
-    *out = r.hertz;
+    *out = r.lent.hertz;
     return r.answer;
 }
 
@@ -96,5 +95,49 @@ uint32_t woolturret_set(const uint8_t *bytes, size_t length, uint32_t setter, ui
 {
     struct call c = {.function = SET, .numbers = {setter, a, b}};
     put_bytes(&c, bytes, length);
-    return ask_with(&c, out, 30);
+    return ask_with_out(&c, out, MOST_OUT);
+}
+
+uint32_t woolturret_configure(const uint8_t *bytes, size_t length, uint32_t config[30], uint32_t *passes)
+{
+    struct call c = {.function = CONFIGURE, .lent.passes = *passes};
+    put_bytes(&c, bytes, length);
+    memcpy(c.lent.out, config, sizeof c.lent.out);
+    struct reply r = ask(&c);
+    memcpy(config, r.lent.out, sizeof r.lent.out);
+    *passes = r.lent.passes;
+    return r.answer;
+}
+
+uint32_t woolturret_derive(const uint8_t *bytes, size_t length, uint32_t clocks[16])
+{
+    struct call c = {.function = DERIVE};
+    put_bytes(&c, bytes, length);
+    memcpy(c.lent.clocks, clocks, sizeof c.lent.clocks);
+    struct reply r = ask(&c);
+    memcpy(clocks, r.lent.clocks, sizeof r.lent.clocks);
+    return r.answer;
+}
+
+uint32_t woolturret_plan(const uint8_t *bytes, size_t length, uint32_t config[30], uint32_t clocks[16], uint32_t *passes)
+{
+    struct call c = {.function = PLAN, .lent.passes = *passes};
+    put_bytes(&c, bytes, length);
+    memcpy(c.lent.out, config, sizeof c.lent.out);
+    memcpy(c.lent.clocks, clocks, sizeof c.lent.clocks);
+    struct reply r = ask(&c);
+    memcpy(config, r.lent.out, sizeof r.lent.out);
+    memcpy(clocks, r.lent.clocks, sizeof r.lent.clocks);
+    *passes = r.lent.passes;
+    return r.answer;
+}
+
+uint32_t woolturret_line(const uint8_t *bytes, size_t length, uint8_t out[157])
+{
+    struct call c = {.function = LINE};
+    put_bytes(&c, bytes, length);
+    memcpy(c.lent.text, out, sizeof c.lent.text);
+    struct reply r = ask(&c);
+    memcpy(out, r.lent.text, sizeof r.lent.text);
+    return r.answer;
 }

@@ -20,27 +20,34 @@ static bool take(void *to, size_t count)
 static uint32_t answer(struct call *c)
 {
     const uint32_t *n = c->numbers;
+    struct lent *l = &c->lent;
     switch (c->function) {
     case SEARCH:
-        return woolturret_search(n[0], n[1] != 0, n[2], n[3], n[4] != 0, n[5], n[6], c->out);
+        return woolturret_search(n[0], n[1] != 0, n[2], n[3], n[4] != 0, n[5], n[6], l->out);
     case CHECK:
         return woolturret_check(c->bytes, c->length);
     case OUTPUT:
-        return woolturret_output(n[0], n[1], n[2], n[3], &c->hertz);
+        return woolturret_output(n[0], n[1], n[2], n[3], &l->hertz);
+    case CONFIGURE:
+        return woolturret_configure(c->bytes, c->length, l->out, &l->passes);
+    case DERIVE:
+        return woolturret_derive(c->bytes, c->length, l->clocks);
+    case PLAN:
+        return woolturret_plan(c->bytes, c->length, l->out, l->clocks, &l->passes);
+    case LINE:
+        return woolturret_line(c->bytes, c->length, l->text);
     default:
-        return woolturret_set(c->bytes, c->length, n[0], n[1], n[2], c->out);
+        return woolturret_set(c->bytes, c->length, n[0], n[1], n[2], l->out);
     }
 }
 
 int main(void)
 {
     static struct call c;
+    static struct reply r;
     while (take(&c, sizeof c)) {
-        struct reply r;
         r.answer = answer(&c);
-        r.hertz = c.hertz;
-        for (int i = 0; i < MOST_OUT; i++)
-            r.out[i] = c.out[i];
+        r.lent = c.lent;
         if (write(1, &r, sizeof r) != (long)sizeof r)
             return 1;
     }

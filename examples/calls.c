@@ -1,5 +1,6 @@
-/* Boards from C: the PLL settings that some get, what those settings give, and a setter tried on a request record. */
+/* Every function from C: the PLL settings that some boards get, a setter tried on a request record, and a record planned. */
 #include <stdio.h>
+#include <string.h>
 #include "woolturret.h"
 
 struct board {
@@ -39,11 +40,8 @@ static void show_board(const struct board *b)
            found[0], (unsigned long long)hertz);
 }
 
-int main(void)
+static void show_setters(void)
 {
-    for (size_t i = 0; i < sizeof boards / sizeof boards[0]; i++)
-        show_board(&boards[i]);
-
     uint32_t numbers[30];
     printf("the default record: check %u\n", woolturret_check(defaults, sizeof defaults));
     uint32_t refusal = woolturret_set(defaults, sizeof defaults, 9, 8, 0, numbers);
@@ -51,5 +49,53 @@ int main(void)
     refusal = woolturret_set(defaults, sizeof defaults, 9, 64, 0, numbers);
     printf("pllm(64) on it: %u, M is %u\n", refusal, numbers[14]);
     printf("63 of its bytes: check %u\n", woolturret_check(defaults, 63));
+}
+
+static void put_u32(uint8_t *at, uint32_t number)
+{
+    for (int i = 0; i < 4; i++)
+        at[i] = (uint8_t)(number >> 8 * i);
+}
+
+static void show_line(const uint8_t *record, size_t length)
+{
+    uint8_t line[157];
+    fwrite(line, 1, woolturret_line(record, length, line), stdout);
+}
+
+/* HSE by bypass at 8 MHz, SYSCLK as given, 48 MHz from PLLQ: flags 0, 1, 3 and 10. */
+static void show_plan(uint32_t sysclk)
+{
+    uint8_t record[64];
+    memcpy(record, defaults, sizeof record);
+    record[0] = 0x0b;
+    record[1] = 0x04;
+    put_u32(record + 20, 8000000);
+    put_u32(record + 28, sysclk);
+
+    uint32_t config[30], clocks[16], passes;
+    uint32_t refusal = woolturret_derive(record, sizeof record, clocks);
+    printf("Nucleo F767 for %u Hz and USB, as it stands: %u, SYSCLK %u Hz\n", sysclk, refusal, clocks[0]);
+    refusal = woolturret_configure(record, sizeof record, config, &passes);
+    printf("its PLL: %u after %u passes", refusal, passes);
+    if (refusal == 0)
+        printf(", use_pll %u, M %u, N %u, P code %u, Q %u", config[12], config[14], config[15], config[16], config[17]);
+    refusal = woolturret_plan(record, sizeof record, config, clocks, &passes);
+    printf("\nits plan: %u after %u passes", refusal, passes);
+    if (refusal == 0)
+        printf(", HCLK %u Hz, PCLK1 %u Hz, PCLK2 %u Hz, HPRE code %u, %u wait states, scale %u, over-drive %u, 48 MHz valid %u",
+               clocks[1], clocks[2], clocks[3], clocks[6], clocks[9], clocks[10], clocks[11], clocks[12]);
+    printf("\n");
+    show_line(record, sizeof record);
+}
+
+int main(void)
+{
+    for (size_t i = 0; i < sizeof boards / sizeof boards[0]; i++)
+        show_board(&boards[i]);
+    show_setters();
+    show_plan(216000000);
+    show_plan(200000000);
+    show_line(defaults, 63);
     return 0;
 }

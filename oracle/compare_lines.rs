@@ -1,0 +1,64 @@
+//! Comparison 8: the program's line for any bytes, against the line that the host
+//! writes from the Rust's plan; the rest of the lent buffer stays as it was.
+
+use crate::answers;
+use crate::boundary_records;
+use crate::boundary_requests;
+use crate::clocks;
+use crate::configuration;
+use crate::library::{self, LINE, UNTOUCHED_BYTE};
+use crate::records;
+use crate::requests::Requests;
+use crate::rows;
+use crate::run::Run;
+use crate::table::Table;
+
+struct Lines<'a> {
+    run: &'a mut Run,
+    table: Table,
+    /// The lengths of the shortest and the longest line.
+    lengths: (u32, u32),
+}
+
+/// Compares every boundary record and request, then random ones, a quarter of them damaged;
+/// answers how many there were.
+pub fn run(run: &mut Run, requests: &Requests) -> u64 {
+    let table = Table::new("lines", &[rows::OF_PLAN]);
+    let mut lines = Lines { run, table, lengths: (u32::MAX, 0) };
+    for record in boundary_records::all() {
+        lines.compare(&record);
+    }
+    for numbers in boundary_requests::all() {
+        lines.compare(&configuration::write(&numbers));
+    }
+    for _ in 0..lines.run.count {
+        let Run { assertions, random, .. } = &mut *lines.run;
+        let record = match random.once_in(5) {
+            true => records::damaged(random),
+            false => requests.record(assertions, random),
+        };
+        lines.compare(&record);
+    }
+    let Lines { run, table, lengths: (least, most) } = lines;
+    say!("lines: {} records, the lines of {least} to {most} bytes", table.total);
+    table.print(run);
+    table.total
+}
+
+impl Lines<'_> {
+    fn compare(&mut self, record: &[u8]) {
+        let ours = library::line(record);
+        self.lengths = (self.lengths.0.min(ours.0), self.lengths.1.max(ours.0));
+        let plan = answers::plan_of(&self.run.assertions, record);
+        self.table.count(&[rows::refusal(plan.err().unwrap_or(0))]);
+        let line = clocks::line(&plan);
+        let mut expected = [UNTOUCHED_BYTE; LINE];
+        expected[..line.len()].copy_from_slice(line.as_bytes());
+        let shown = |(length, out): (u32, [u8; LINE])| (length, out.escape_ascii().to_string());
+        let what = || format!("line of the record {record:02x?}");
+        if ours != (line.len() as u32, expected) {
+            let expected = shown((line.len() as u32, expected));
+            self.run.differences.compare(shown(ours), expected, what);
+        }
+    }
+}
