@@ -1,12 +1,13 @@
 -- A number in decimal: its digits in ASCII, the most significant first, no zero before them.
 use Prim.Native.Nat.{ℕ, zero, suc, _+_, _/_, _%_}
+use Prim.Native.Char.{code}
 use mathlib.Core.Bool.{Bool, true, false}
 use mathlib.Core.List.{List, [], _∷_, _++_}
 use lib.Dec.{ltb}
 
 -- a digit
 abbrev pub glyph : ℕ → ℕ
-glyph d = 48 + d
+glyph d = code "0" + d
 
 -- the digits of n, at most f of them; small says whether n is below 10
 unfoldable pub digitsIn : ℕ → Bool → ℕ → List ℕ

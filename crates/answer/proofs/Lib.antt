@@ -1,0 +1,3 @@
+-- What is proved of the line, and the laws for it.
+pub mod Lines
+pub mod Default

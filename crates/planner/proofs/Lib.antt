@@ -1,0 +1,3 @@
+-- What is proved of the text, and the laws for it.
+pub mod Pieces
+pub mod Joining

@@ -1,0 +1,58 @@
+-- The text of a piece of input, record by record.
+use Prim.Native.Nat.{ℕ, zero, suc, _+_, _*_, _/_, _%_, _≤_, _<_}
+use mathlib.Core.Path.{_≡_, refl, ap, _∙_}
+use mathlib.Core.List.{List, _++_, append-nil}
+use native.Mathlib.Omega.{arith}
+use native.Mathlib.Numerals.{add-one}
+use lib.ListN.{length, take, drop, length-take}
+use lib.Seq.{take-at}
+use Rattle.text.specs.Line.{noLine}
+use Rattle.text.specs.Placing.{Wrote, Placing}
+use Rattle.text.specs.declared.Placed.{Placed}
+use Rattle.text.specs.declared.Placed.the-variants.{Next, NoRoom}
+use Rattle.text.proofs.Writing as writing
+use Rattle.answer.specs.Answer.{answerLine}
+use Rattle.answer.proofs.Lines.{another-length}
+use Rattle.planner.specs.Output.{linesOf, tailOf, textOf, Filled, Begins}
+
+-- a line that was put
+pub filled : {s x t : List ℕ} {at most n : ℕ} {r : Placed} → Placing s at x most t r → r ≡ Next n → Filled s at x most t n
+filled p e = record { wrote = writing.wrote p e; near = writing.within p e .0 }
+
+-- there was room
+pub never : {s x t : List ℕ} {at most n : ℕ} {r : Placed} → Placing s at x most t r → r ≡ NoRoom → at + most ≤ length s → Filled s at x most t n
+never p e h = absurd (omega (arith, writing.no-room-keeps p e .0))
+
+-- no record yet
+pub begun : (s b : List ℕ) → Filled s 0 (linesOf b 0) 0 s 0
+unfolding linesOf
+begun s b = record { wrote = writing.none s 0; near = omega arith }
+
+-- one record more
+pub more : {s t u : List ℕ} {at n : ℕ} (b : List ℕ) (k size : ℕ) → size ≡ 64 → Filled s 0 (linesOf b k) (157 * k) t at → Filled t at (answerLine (take size (drop (64 * k) b))) 157 u n → Filled s 0 (linesOf b (k + 1)) (157 * (k + 1)) u n
+unfolding linesOf
+more b k size e p q = record {
+  wrote = rw add-one (writing.join (p .wrote) (rw e at (q .wrote)));
+  near = omega (arith, p .near, q .near);
+}
+
+tail-of : (n : ℕ) → (n ≡ 0 → ⊥) → tailOf n ≡ noLine 14
+tail-of zero h = absurd (h refl)
+tail-of (suc n) h = refl
+
+-- whole records alone
+pub without-tail : (b : List ℕ) → length b % 64 ≡ 0 → linesOf b (length b / 64) ≡ textOf b
+unfolding textOf
+without-tail b e = rw (e, append-nil)
+
+-- a short tail after them
+pub with-tail : (b : List ℕ) (from size : ℕ) → size < 64 → (length b % 64 ≡ 0 → ⊥) → linesOf b (length b / 64) ++ answerLine (take size (drop from b)) ≡ textOf b
+unfolding textOf
+with-tail b from size l e = rw (tail-of (length b % 64) e, another-length (take size (drop from b)) (λ z. omega (arith, length-take size (drop from b))))
+
+-- the buffer begins with what was put at its start
+pub begins : {s x t : List ℕ} {n : ℕ} → Wrote s 0 x t n → n ≤ length s → Begins t n x
+begins {s} {x} {t} {n} w h = record {
+  inside = omega (arith, writing.same w);
+  is = ap (take n) (writing.stands w (omega (arith, w .ends))) ∙ take-at x (drop n s) n (omega (arith, w .ends));
+}
