@@ -2,3 +2,4 @@
 pub mod Lists
 pub mod Replying
 pub mod Planning
+pub mod Lining

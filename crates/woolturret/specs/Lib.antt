@@ -4,3 +4,4 @@ pub mod Named
 pub mod Answers
 pub mod Replies
 pub mod Plans
+pub mod Lines

@@ -4,6 +4,7 @@ mod numbers;
 mod plans;
 mod setters;
 
+use answer::put_answer;
 use clocks::calculate_clocks;
 use configure::pll_configure;
 use kinds::CFGR;
@@ -14,13 +15,16 @@ use plan::plan;
 use pll::Outcome;
 use record::Reading;
 use setters::Named;
+use text::Placed;
 ghost use mathlib.Core.Path.{_≡_};
 ghost use Rattle.record.specs.Reading.{readOf};
+ghost use Rattle.answer.specs.Answer.{answerLine};
 ghost use Rattle.pll.specs.Fixed.{outputOf};
 ghost use Rattle.pll.specs.Walk.{searchOf};
 ghost use Rattle.woolturret.specs.Answers.{windowOf};
 ghost use Rattle.woolturret.specs.Replies.{Replied, checkReply, setReply, callReply, searchReply, Told};
 ghost use Rattle.woolturret.specs.Plans.{Configures, configureReply, Derives, deriveReply, Plans, planReply};
+ghost use Rattle.woolturret.specs.Lines.{Lines};
 ghost use Rattle.woolturret.specs.Named.{namedOf};
 
 // The check of 1 to 6 of the configuration that a record holds: 0 where nothing is refused, 14 for a malformed record.
@@ -152,5 +156,17 @@ pub extern "C" fn woolturret_plan(
             14
         }
         Reading::Config(cfgr) => plans::planned(plan(cfgr), config, clocks, passes),
+    }
+}
+
+// The program's line of any bytes, at the start of out; its length is answered, and the rest of out is as it was.
+#[no_mangle]
+pub extern "C" fn woolturret_line(bytes: &[u8], out: &mut [u8; 157]) -> u32
+    ensures { λ r. ⌜ Lines (answerLine (now (bytes .entry))) (now (out .entry)) r (now (out .exit)) ⌝ }
+{
+    let line: &mut [u8] = out;
+    match put_answer(bytes, line, 0) {
+        Placed::Next(next) => next as u32,
+        Placed::NoRoom => 0,
     }
 }
