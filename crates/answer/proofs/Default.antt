@@ -16,10 +16,10 @@ use Rattle.text.specs.Decimal.{decimal, digitsIn}
 use Rattle.text.specs.Line.{spaced, lineOf}
 use Rattle.answer.specs.Answer.{numbersOf, plannedLine, readLine, answerLine, defaultLine}
 
-planned-line : plannedLine (planOf defaults) ≡ defaultLine
+default-planned : plannedLine (planOf defaults) ≡ defaultLine
 unfolding inputOf outsideOf firstOf checkOf baseOf configuredOf chosenOf settledOf baseIn wantedIn pWindowIn qWindowIn pWindowOf round24 ratioUp hpreRow ppreRow sysclkOf wantedOf hpreOf ahbFor capOf timclkOf apbFor waitsOf scaleOf validOf ahbOf apb1Of apb2Of clocksOf configOf derivedOf clocksSettled saiRefusal i2sRefusal limitsOf limitedOf clockedOf plannedOf planOf decimal digitsIn spaced lineOf numbersOf plannedLine size
-planned-line = refl
+default-planned = refl
 
 pub default-line : answerLine defaultRecord ≡ defaultLine
 unfolding answerLine readLine
-default-line = rw reads-defaults planned-line
+default-line = rw reads-defaults default-planned

@@ -4,7 +4,7 @@ use mathlib.Core.Bool.{cond}
 use mathlib.Core.List.{List, [], _∷_}
 use Rattle.kinds.specs.Codes.{pDividerOf}
 use Rattle.kinds.specs.declared.Pll.{Pll}
-use Rattle.plan.specs.Plan.{planOf}
+use Rattle.plan.specs.Plan.{planOf, numberOf as planNumber}
 use Rattle.clocks.specs.declared.Clocks.{Clocks}
 use Rattle.clocks.specs.declared.InternalRCCConfig.{InternalRCCConfig}
 use Rattle.plan.specs.declared.Planned.{Planned}
@@ -35,6 +35,11 @@ readLine (Config c) = plannedLine (planOf c)
 -- the line of any bytes, also of another length than 64
 unfoldable pub answerLine : List ℕ → List ℕ
 answerLine bytes = readLine (readOf bytes)
+
+-- the number of the refusal that they are answered with; 0 is accepted
+abbrev pub refusalOf : Reading → ℕ
+refusalOf (Malformed fault) = numberOf fault
+refusalOf (Config c) = planNumber (planOf c)
 
 -- document 01's whole output for the record of the Rust's defaults
 abbrev pub defaultLine : List ℕ

@@ -31,6 +31,7 @@ fn put_lines(input: &[u8], k: usize, out: &mut [u8]) -> usize
     at
 }
 
+// The whole text, from the start of out.
 pub(crate) fn put_text(input: &[u8], out: &mut [u8]) -> usize
     requires { ⌜ 157 * (length (now input) / 64 + 1) ≤ length (now out) ⌝ }
     ensures { λ r. ⌜ Begins (now (out .exit)) r (textOf (now (input .entry))) ⌝ }

@@ -8,7 +8,7 @@ ghost use mathlib.Core.Path.{_≡_};
 ghost use Prim.Native.Nat.{_+_, _*_, _-_, _/_, _<_, _≤_, min};
 ghost use lib.ListN.{length};
 
-// The records that are read at most; a piece is 1,024 of them, its lines are at most 157 bytes each.
+// The records that are read at most, and the bytes of a piece, 1,024 of them.
 const RECORDS: usize = 1000000;
 
 const PIECE: usize = 65536;
@@ -61,6 +61,7 @@ fn wanted(left: usize) -> usize
     if 64 * left < PIECE { 64 * left } else { PIECE }
 }
 
+// Writes the text of the bytes that came in. No contract can say what a read or a write moved: put_text says what is handed over.
 fn write_lines(input: &[u8], got: usize, out: &mut [u8]) -> bool
     requires { ⌜ (got ≤ length (now input)) × (157 * (got / 64 + 1) ≤ length (now out)) ⌝ }
 {
@@ -95,6 +96,7 @@ fn step(input: &mut [u8], out: &mut [u8], left: usize) -> usize
     left - got / 64
 }
 
+// Places for 1,025 lines of 157 bytes: those of a piece, and that of a tail.
 fn line_buffer() -> [u8; 160925]
     ensures { λ r. ⌜ 160925 ≡ length r ⌝ }
 {
