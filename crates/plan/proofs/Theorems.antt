@@ -1,14 +1,14 @@
 -- What is promised of a plan, for every configuration; each is read off how a plan comes about.
 use Prim.Native.Nat.{ℕ, _/_, _≤_, _<_}
 use mathlib.Core.Path.{_≡_, refl, sym, _∙_, ap, subst}
-use mathlib.Core.Logic.{_⊎_, inl, inr}
+use mathlib.Core.Logic.{_⊎_, inl, inr, _↔_}
 use mathlib.Core.Bool.{Bool, true, false, cond}
 use lib.Dec.{eqb}
 use native.Mathlib.Omega.{arith}
 use native.Mathlib.Nat.{div-le-of-le-mul}
 use Rattle.kinds.specs.Limits.{checkOf}
 use Rattle.kinds.specs.Table.{Between, Refused as Given, LeastOf, Least, none, least}
-use Rattle.kinds.proofs.Check.{kept-none, check-least, check-le}
+use Rattle.kinds.proofs.Check.{exactly, kept-none, check-least, check-le}
 use Rattle.kinds.specs.declared.CFGR.{CFGR}
 use Rattle.pll.proofs.Dividers.{split}
 use Rattle.pll.specs.Outputs.{pOutputOf}
@@ -70,6 +70,10 @@ plan-least c = from (planOf c) (plan-view c)
     from p (missed s g) = least (search s g) (unfound s)
     from p (limited {d = d} {k = k} e z) = lates d k e (limitsOf d) (late-least d)
     from p (ready {d = d} {k = k} e z) = lates d k e 0 (subst (λ (n : ℕ). LeastOf (Late d) n) z (late-least d))
+
+-- so it is n exactly if n is the least number given
+pub plan-refuses-exactly : (c : CFGR) (n : ℕ) → (numberOf (planOf c) ≡ n) ↔ LeastOf (PlanRefused c) n
+plan-refuses-exactly c n = exactly (plan-least c)
 
 -- a plan never gives 8: its numbers are 0 to 7 and 9 to 11
 pub plan-gives-only : (c : CFGR) → (numberOf (planOf c) ≤ 7) ⊎ Between 9 11 (numberOf (planOf c))
