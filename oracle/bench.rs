@@ -13,7 +13,7 @@ use crate::walk::{vco, walk};
 
 /// Each timing lasts at least so long for the slower of the two.
 const SECONDS: f64 = 0.2;
-pub const TIMINGS: usize = 5;
+const TIMINGS: usize = 5;
 const CASES: usize = 256;
 
 /// A kind of search: its name, how a case is made, and which refusal and passes it comes to.
@@ -130,7 +130,7 @@ fn time<T>(cases: &[Case], rounds: usize, search: impl Fn(&Case) -> T) -> f64 {
     start.elapsed().as_secs_f64()
 }
 
-pub fn median(mut timings: [f64; TIMINGS]) -> f64 {
+fn median(mut timings: [f64; TIMINGS]) -> f64 {
     timings.sort_by(f64::total_cmp);
     timings[TIMINGS / 2]
 }

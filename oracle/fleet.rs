@@ -1,5 +1,5 @@
-//! Records of a fleet: boards as one meets them and requests of every kind, about half of them
-//! accepted.
+//! Records of a fleet: boards as one meets them, requests for some SYSCLK and requests of every
+//! kind, in all about half of them accepted.
 
 use crate::answers;
 use crate::cases;
@@ -19,16 +19,25 @@ const SOURCES: [(u32, u32); 8] =
 /// What boards run at, in MHz.
 const SYSCLKS: [u32; 9] = [216, 216, 216, 200, 180, 168, 144, 100, 48];
 
-/// So many records, which follow from the seed: half of them boards, a quarter that ask for
-/// some SYSCLK, a quarter of every kind.
-pub fn records(rust: &Assertions, count: u64, seed: u64) -> Vec<u8> {
+/// How many shares of the records are boards, ask for some SYSCLK, and are of every kind.
+pub type Mixture = [u32; 3];
+
+pub const FLEET: Mixture = [2, 1, 1];
+pub const BOARDS: Mixture = [1, 0, 0];
+pub const EVERY_KIND: Mixture = [0, 0, 1];
+
+/// So many records of a mixture, which follow from the seed.
+pub fn records(rust: &Assertions, [boards, some, any]: Mixture, count: u64, seed: u64) -> Vec<u8> {
     let (requests, mut random) = (Requests::new(), Random::new(seed));
     let mut records = Vec::new();
     for _ in 0..count {
-        let mut record = match random.below(4) {
-            0 | 1 => configuration::write(&board(rust, &mut random)).to_vec(),
-            2 => configuration::write(&some_sysclk(&mut random)).to_vec(),
-            _ => requests.record(rust, &mut random),
+        let share = random.below(boards + some + any);
+        let mut record = if share < boards {
+            configuration::write(&board(rust, &mut random)).to_vec()
+        } else if share < boards + some {
+            configuration::write(&some_sysclk(&mut random)).to_vec()
+        } else {
+            requests.record(rust, &mut random)
         };
         record.resize(RECORD, 0);
         records.extend(record);

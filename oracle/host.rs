@@ -130,7 +130,8 @@ fn sample(file: &str) -> io::Result<bool> {
 
 fn fleet(count: u64, seed: u64, file: &str) -> io::Result<bool> {
     panics::install();
-    fs::write(file, fleet::records(&Assertions::of_the_rust(), count, seed)).map(|()| true)
+    let records = fleet::records(&Assertions::of_the_rust(), fleet::FLEET, count, seed);
+    fs::write(file, records).map(|()| true)
 }
 
 fn lines() -> io::Result<bool> {

@@ -7,7 +7,7 @@ use crate::configuration::RECORD;
 use crate::panics::Assertions;
 
 /// The program reads no further.
-const MOST: usize = 1_000_000;
+pub const MOST: usize = 1_000_000;
 
 /// A line for each whole record up to the millionth, and one for a short tail before it.
 pub fn of_records(rust: &Assertions, records: &[u8]) -> String {

@@ -1,6 +1,7 @@
 //! The program as it would be over the Rust, to be timed: records from standard input, a line
-//! for each to standard output. Only 7 panics, as it must: 1 to 6 and 9 to 11 are seen by plain
-//! tests, and `freeze`, which modelled registers would slow down, is not run.
+//! for each to standard output. Nothing in it panics, as catching a panic takes as long as many
+//! a search: it is the Rust's own search and `calculate_clocks`, with plain tests for 1 to 6 and
+//! 9 to 11 and the lines of `pll_configure` about the search written anew.
 
 use std::io::{self, BufWriter, Read, Write};
 
@@ -9,17 +10,13 @@ use hal::rcc::CFGR;
 use crate::answers;
 use crate::clocks::{self, Plan};
 use crate::configuration::{self, at, Numbers, RECORD};
-use crate::panics::{self, caught, Assertions};
+use crate::lines::MOST;
 use crate::records::{FACTORS, REQUESTS};
-use crate::ways::p_divider;
-
-const MOST: usize = 1_000_000;
+use crate::ways::{self, p_divider, Way};
 
 const PIECE: usize = 1_024 * RECORD;
 
 pub fn run() -> io::Result<()> {
-    panics::install();
-    let rust = Assertions::of_the_rust();
     let (mut input, mut output) = (io::stdin().lock(), BufWriter::new(io::stdout().lock()));
     let mut piece = Vec::with_capacity(PIECE);
     let mut left = MOST * RECORD;
@@ -27,7 +24,7 @@ pub fn run() -> io::Result<()> {
         piece.clear();
         input.by_ref().take(PIECE.min(left) as u64).read_to_end(&mut piece)?;
         for record in piece.chunks(RECORD) {
-            output.write_all(clocks::line(&plan(&rust, record)).as_bytes())?;
+            output.write_all(clocks::line(&plan(record)).as_bytes())?;
         }
         left -= piece.len();
         if piece.len() < PIECE {
@@ -36,17 +33,32 @@ pub fn run() -> io::Result<()> {
     }
 }
 
-fn plan(rust: &Assertions, record: &[u8]) -> Result<Plan, u32> {
-    let numbers = configuration::read(record).ok_or(14u32)?;
+fn plan(record: &[u8]) -> Result<Plan, u32> {
+    let mut numbers = configuration::read(record).ok_or(14u32)?;
     none(limits(&numbers))?;
-    let (config, clocks) = caught(rust, || {
-        let mut cfgr = CFGR::of_numbers(&numbers);
-        cfgr.configure_pll();
-        let clocks = answers::clocks_of(&cfgr);
-        (cfgr.numbers(), clocks)
-    })?;
-    none(other_plls(&config))?;
-    Ok((config, clocks))
+    configure(&mut numbers)?;
+    let clocks = answers::clocks_of(&CFGR::of_numbers(&numbers));
+    none(other_plls(&numbers))?;
+    Ok((numbers, clocks))
+}
+
+/// `pll_configure` without its panic: the search is the Rust's.
+fn configure(numbers: &mut Numbers) -> Result<(), u32> {
+    match ways::way(numbers) {
+        Way::Neither => numbers[at::USE_PLL] = 0,
+        Way::Kept => {}
+        Way::Search { p, q } => {
+            let found = CFGR::search(ways::input(numbers), p, q);
+            let (m, n, p, q) = found.ok_or(7u32)?;
+            numbers[at::M..=at::N].copy_from_slice(&[m, n]);
+            if let Some(p) = p {
+                numbers[at::USE_PLL] = 1;
+                numbers[at::P] = p / 2 - 1;
+            }
+            numbers[at::Q] = q.unwrap_or(numbers[at::Q]);
+        }
+    }
+    Ok(())
 }
 
 fn none(refusal: u32) -> Result<(), u32> {
@@ -68,9 +80,7 @@ fn limits(numbers: &Numbers) -> u32 {
             return number;
         }
     }
-    let outside =
-        |&(at, low, high, _): &(usize, u32, u32, u32)| !(low..=high).contains(&numbers[at]);
-    if FACTORS.iter().any(outside) {
+    if FACTORS.iter().any(|&(place, low, high, _)| !(low..=high).contains(&numbers[place])) {
         6
     } else {
         0
