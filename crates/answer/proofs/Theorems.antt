@@ -1,6 +1,6 @@
 -- What a line tells of the bytes that it answers: by the cases of what they are read as and planned as.
 use Prim.Native.Nat.{ℕ, _≤_}
-use mathlib.Core.Path.{_≡_, sym, ap, _∙_}
+use mathlib.Core.Path.{_≡_, sym, ap, _∙_, refl}
 use mathlib.Core.List.{List, [], _∷_}
 use mathlib.Core.Logic.{_↔_, _⊎_, inl, inr}
 use native.Mathlib.Omega.{arith}
@@ -12,7 +12,7 @@ use Rattle.clocks.specs.declared.InternalRCCConfig.{InternalRCCConfig}
 use Rattle.plan.specs.Plan.{planOf, numberOf as planNumber}
 use Rattle.plan.specs.declared.Planned.{Planned}
 use Rattle.plan.specs.declared.Planned.the-variants.{Refused, Ready}
-use Rattle.plan.proofs.Theorems.{plan-gives-only}
+use Rattle.plan.proofs.Theorems.{plan-gives-only, refused-is-not-0}
 use Rattle.record.specs.Config.{cfgrOf}
 use Rattle.record.specs.Reading.{readOf}
 use Rattle.record.specs.WellFormed.{WellFormed}
@@ -75,3 +75,16 @@ says-14-exactly bytes = (
   λ e w. never-14 (cfgrOf bytes) (sym (ap refusalOf (reads-exactly bytes .1 w)) ∙ refused-exactly bytes 14 (λ z. omega arith) .0 e),
   λ n. let f = else-malformed bytes n in refused-exactly bytes 14 (λ z. omega arith) .1 (ap refusalOf (f .1) ∙ malformed-14 (f .0)),
 )
+
+-- no line is `no 0`: what is not refused has the line of its plan
+pub never-no-0 : (bytes : List ℕ) → answerLine bytes ≡ noLine 0 → ⊥
+unfolding answerLine readLine plannedLine
+never-no-0 bytes e = read (readOf bytes) e
+  where
+    planned : (c : CFGR) (y : Planned) → planOf c ≡ y → plannedLine y ≡ noLine 0 → ⊥
+    planned c (Refused number passes) h g = refused-is-not-0 c number passes h (one-number g)
+    planned c (Ready d passes x y) h g = apart _ 0 g
+
+    read : (x : Reading) → readLine x ≡ noLine 0 → ⊥
+    read (Malformed fault) g = let a = malformed-14 fault in let b = one-number g in omega arith
+    read (Config c) g = planned c (planOf c) refl g

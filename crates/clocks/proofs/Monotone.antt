@@ -62,3 +62,9 @@ unfolding ratioUp
 ratio-one n N =
     let a = round24 n in
     ap (λ (g : ℕ). up g U) (digits24-same (a * U) a (1 * U) 1 (round24-pos n N) (lit< tt) (mul-one (a * U) ∙ mul-comm a U ∙ ap (λ (z : ℕ). z * a) (sym (one-mul U))) ∙ one-whole)
+
+-- it is at least 1: the Rust's rows for a ratio of 0, marked unreachable, are
+pub ratio-some : (n d : ℕ) → 0 < n → 0 < d → d < 2 ^ 28 → 1 ≤ ratioUp n d
+unfolding ratioUp
+ratio-some n d N D E =
+    le-trans (lit≤ tt) (up-grows 1 (quotient24 (round24 n) (round24 d)) U U-pos (quotient-pos (round24 n) (round24 d) (round24-pos n N) (round24-pos d D) (round24-lt d E)))

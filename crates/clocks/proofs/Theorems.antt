@@ -8,7 +8,7 @@ use native.Mathlib.Omega.{arith}
 use borrow.Author.Tests.{eqb-true, eqb-false, ltb-true, ltb-false, leb-true, leb-false, lt-leb}
 use Rattle.kinds.specs.Limits.{checkOf}
 use Rattle.kinds.specs.Table.{Between, Refused, LeastOf, Least, none, least, Checked}
-use Rattle.kinds.proofs.Check.{check-told, told-check, kept-none, check-least, check-le}
+use Rattle.kinds.proofs.Check.{exactly, check-told, told-check, kept-none, check-least, check-le}
 use Rattle.kinds.specs.declared.CFGR.{CFGR}
 use Rattle.clocks.specs.Derive.{sysclkOf, cap1Of, cap2Of, ahbFor, ahbOf, apb1Of, apb2Of, waitsOf, clocksOf, configOf, settledOf, derivedOf}
 use Rattle.clocks.specs.Numbers.{derivedNumber}
@@ -65,6 +65,10 @@ derive-least c = from (derivedOf c) (derived-view c)
     from d (limited n) = limits (checkOf c) (check-least c) (check-le c) n
     from d (above q h) = least (sysclk h) (only q)
     from d (given q s) = none (never q (s .high))
+
+-- so it is n exactly if n is the least number given
+pub derive-refuses-exactly : (c : CFGR) (n : ℕ) → (derivedNumber (derivedOf c) ≡ n) ↔ LeastOf (DeriveRefused c) n
+derive-refuses-exactly c n = exactly (derive-least c)
 
 -- it accepts exactly if every limit is kept and SYSCLK is at most 216 MHz
 pub derive-accepts-exactly : (c : CFGR) → (derivedNumber (derivedOf c) ≡ 0) ↔ (Checked c × (sysclkOf c ≤ 216000000))

@@ -137,10 +137,6 @@ module _ (c : CFGR) (m : Divider) (n : Factor) (x y : Sought) (k : ℕ) (e : sea
   unfolding baseIn
   same-base = refl
 
-  pub same-wanted : wantedIn (gives c m n x y) ≡ wantedIn c
-  unfolding wantedIn baseIn
-  same-wanted = refl
-
   pub same-p : pWindowIn (gives c m n x y) ≡ pWindowIn c
   unfolding pWindowIn wantedIn baseIn
   same-p = refl

@@ -1,18 +1,28 @@
 -- The check gives the least number of document 01's table, and 0 exactly where every limit is kept: each limit by its range test, joined in the table's order.
 use Prim.Native.Nat.{ℕ, zero, suc, _≤_, _<_}
-use mathlib.Core.Path.{_≡_, refl}
-use mathlib.Core.Logic.{_⊎_, inl, inr}
+use mathlib.Core.Path.{_≡_, refl, subst}
+use mathlib.Core.Logic.{_⊎_, inl, inr, _↔_}
 use mathlib.Core.Bool.{Bool, true, false, cond, _&&_}
 use lib.Dec.{leb}
 use native.Mathlib.Omega.{arith}
 use borrow.Author.Tests.{leb-true, leb-false, ne-eqb}
 use Rattle.kinds.specs.Limits.{outsideOf, limited, firstOf, hseRefusal, askedRefusal, requestsRefusal, checkOf}
-use Rattle.kinds.specs.Table.{Between, Outside, HseWithin, HseOutside, AskedWithin, AskedOutside, Refused, hse, hclk, sysclk, pclk1, pclk2, pllm, plln, pllq, pllsain, pllsaiq, plli2sn, plli2sr, plli2sq, Least, none, least, Checked}
+use Rattle.kinds.specs.Table.{Between, Outside, HseWithin, HseOutside, AskedWithin, AskedOutside, Refused, hse, hclk, sysclk, pclk1, pclk2, pllm, plln, pllq, pllsain, pllsaiq, plli2sn, plli2sr, plli2sq, LeastOf, Least, none, least, Checked}
 use Rattle.kinds.specs.declared.CFGR.{CFGR}
 use Rattle.kinds.specs.declared.HSEClock.{HSEClock}
 use Rattle.kinds.specs.declared.HSEClock.the-variants.{Absent as NoHse, Oscillator, Bypass}
 use Rattle.kinds.specs.declared.Request.{Request}
 use Rattle.kinds.specs.declared.Request.the-variants.{Absent as NoRequest, At}
+
+-- ---- the least number given is one
+pub least-one : {G : ℕ → Type 0} {a b : ℕ} → LeastOf G a → LeastOf G b → a ≡ b
+least-one (none f) (none g) = refl
+least-one (none f) (least {n = n} x g) = absurd (f n x)
+least-one (least {n = n} x f) (none g) = absurd (g n x)
+least-one (least {n = m} x f) (least {n = n} y g) = let a = f n y in let b = g m x in omega arith
+
+pub exactly : {G : ℕ → Type 0} {a n : ℕ} → LeastOf G a → (a ≡ n) ↔ LeastOf G n
+exactly {G} l = (λ e. subst (λ (z : ℕ). LeastOf G z) e l, λ k. least-one l k)
 
 -- ---- one limit
 -- what a test of a limit tells: P is that it is kept, Q that it is broken, and k its number
@@ -244,6 +254,10 @@ module _ (c : CFGR) where
       at : (a : ℕ) → Covers (HseWithin (c .sources .hse) × (Requests × (Pll × (Sai × I2s)))) Given 1 6 a → Least c a
       at zero v = none (λ n r. v .none-given (v .kept refl) n (to-given n r))
       at (suc k) v = least (from-given (suc k) (v .given (omega arith))) (λ n r. v .least-given (omega arith) n (to-given n r))
+
+  -- so it is n exactly if n is the least number given
+  pub check-refuses-exactly : (n : ℕ) → (checkOf c ≡ n) ↔ Least c n
+  check-refuses-exactly n = exactly check-least
 
   -- it is at most 6
   pub check-le : checkOf c ≤ 6

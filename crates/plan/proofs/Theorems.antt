@@ -1,14 +1,14 @@
 -- What is promised of a plan, for every configuration; each is read off how a plan comes about.
 use Prim.Native.Nat.{ℕ, _/_, _≤_, _<_}
 use mathlib.Core.Path.{_≡_, refl, sym, _∙_, ap, subst}
-use mathlib.Core.Logic.{_⊎_, inl, inr}
+use mathlib.Core.Logic.{_⊎_, inl, inr, _↔_}
 use mathlib.Core.Bool.{Bool, true, false, cond}
 use lib.Dec.{eqb}
 use native.Mathlib.Omega.{arith}
 use native.Mathlib.Nat.{div-le-of-le-mul}
 use Rattle.kinds.specs.Limits.{checkOf}
 use Rattle.kinds.specs.Table.{Between, Refused as Given, LeastOf, Least, none, least}
-use Rattle.kinds.proofs.Check.{kept-none, check-least, check-le}
+use Rattle.kinds.proofs.Check.{exactly, kept-none, check-least, check-le}
 use Rattle.kinds.specs.declared.CFGR.{CFGR}
 use Rattle.pll.proofs.Dividers.{split}
 use Rattle.pll.specs.Outputs.{pOutputOf}
@@ -70,6 +70,44 @@ plan-least c = from (planOf c) (plan-view c)
     from p (missed s g) = least (search s g) (unfound s)
     from p (limited {d = d} {k = k} e z) = lates d k e (limitsOf d) (late-least d)
     from p (ready {d = d} {k = k} e z) = lates d k e 0 (subst (λ (n : ℕ). LeastOf (Late d) n) z (late-least d))
+
+-- so it is n exactly if n is the least number given
+pub plan-refuses-exactly : (c : CFGR) (n : ℕ) → (numberOf (planOf c) ≡ n) ↔ LeastOf (PlanRefused c) n
+plan-refuses-exactly c n = exactly (plan-least c)
+
+-- it accepts exactly if pll_configure settles the main PLL and none of 9 to 11 is given; a plan is handed back then, and only then
+pub plan-accepts-exactly : (c : CFGR) → (numberOf (planOf c) ≡ 0) ↔ ((d : CFGR) × (k : ℕ) × Plans c d k × ((n : ℕ) → Late d n → ⊥))
+plan-accepts-exactly c = (λ e. forth (planOf c) (plan-view c) e, λ w. back (w .0) (w .1) (w .2) (w .3))
+  where
+    unlimited : (d : CFGR) (a : ℕ) → LeastOf (Late d) a → a ≡ 0 → (n : ℕ) → Late d n → ⊥
+    unlimited d a (none f) z = f
+    unlimited d a (least l f) z = absurd (omega (arith, late-low d a l .low))
+
+    zero : (d : CFGR) (a : ℕ) → LeastOf (Late d) a → ((n : ℕ) → Late d n → ⊥) → a ≡ 0
+    zero d a (none f) g = refl
+    zero d a (least l f) g = absurd (g a l)
+
+    forth : (p : Planned) → PlanView c p → numberOf p ≡ 0 → (d : CFGR) × (k : ℕ) × Plans c d k × ((n : ℕ) → Late d n → ⊥)
+    forth p (refused z) e = absurd (z e)
+    forth p (missed s g) e = absurd (omega arith)
+    forth p (limited a z) e = absurd (z e)
+    forth p (ready {d = d} {k = k} a z) e = (d, k, a, unlimited d (limitsOf d) (late-least d) z)
+
+    back : (d : CFGR) (k : ℕ) → Plans c d k → ((n : ℕ) → Late d n → ⊥) → numberOf (planOf c) ≡ 0
+    back d k a f = ap (λ (p : Planned). numberOf p) (plan-of c d k a (zero d (limitsOf d) (late-least d) f))
+
+-- a refusal has a number that is not 0
+pub refused-is-not-0 : (c : CFGR) (n k : ℕ) → planOf c ≡ Refused n k → n ≡ 0 → ⊥
+refused-is-not-0 c n k e z = from (planOf c) (plan-view c) e
+  where
+    number : {p : Planned} → p ≡ Refused n k → numberOf p ≡ n
+    number h = ap (λ (q : Planned). numberOf q) h
+
+    from : (p : Planned) → PlanView c p → p ≡ Refused n k → ⊥
+    from p (refused a) h = a (number h ∙ z)
+    from p (missed s g) h = let y = number h in omega arith
+    from p (limited a b) h = b (number h ∙ z)
+    from p (ready a b) h = let y : _≡_ {A = ℕ} 0 1 = cc in omega arith
 
 -- a plan never gives 8: its numbers are 0 to 7 and 9 to 11
 pub plan-gives-only : (c : CFGR) → (numberOf (planOf c) ≤ 7) ⊎ Between 9 11 (numberOf (planOf c))

@@ -29,16 +29,10 @@ pub enum Planned {
 }
 
 // A plan whose PLLSAI and PLLI2S were found to be refused with a number, or with 0.
-fn limited(
-    cfgr: CFGR,
-    passes: u32,
-    clocks: Clocks,
-    config: InternalRCCConfig,
-    number: u8,
-) -> Planned
-    ensures { λ r. ⌜ r ≡ limitedOf cfgr passes clocks config number ⌝ }
+fn limited(cfgr: CFGR, passes: u32, clocks: Clocks, config: InternalRCCConfig, late: u8) -> Planned
+    ensures { λ r. ⌜ r ≡ limitedOf cfgr passes clocks config late ⌝ }
 {
-    if number == 0 {
+    if late == 0 {
         Planned::Ready {
             cfgr: cfgr,
             passes: passes,
@@ -47,7 +41,7 @@ fn limited(
         }
     } else {
         Planned::Refused {
-            number: number,
+            number: late,
             passes: passes,
         }
     }

@@ -10,7 +10,7 @@ use kinds::limits::first_of;
 ghost use mathlib.Core.Path.{_≡_};
 ghost use Prim.Native.Nat.{_≤_};
 ghost use Rattle.kinds.specs.Limits.{outsideOf};
-ghost use Rattle.kinds.specs.Table.{Between, Checked};
+ghost use Rattle.kinds.specs.Table.{Checked};
 ghost use Rattle.plan.specs.Plan.{roughOf, saiRefusal, i2sRefusal, limitsOf};
 
 // floor(input/M) × N: the input is not cut to a multiple of 16.

@@ -20,6 +20,10 @@ tailOf (suc n) = noLine 14
 unfoldable pub textOf : List ℕ → List ℕ
 textOf b = linesOf b (length b / 64) ++ tailOf (length b % 64)
 
+-- what the program writes of its whole input: up to 1,000,000 records are read
+abbrev pub outputOf : List ℕ → List ℕ
+outputOf b = textOf (take 64000000 b)
+
 -- pieces of input one after the other, and the text of each in that order
 abbrev pub together : List (List ℕ) → List ℕ
 together [] = []

@@ -7,6 +7,7 @@ use libc::STDOUT_FILENO;
 ghost use mathlib.Core.Path.{_≡_};
 ghost use Prim.Native.Nat.{_+_, _*_, _-_, _/_, _<_, _≤_, min};
 ghost use lib.ListN.{length};
+ghost use Rattle.planner.specs.Asking.{Leaves};
 
 // The records that are read at most, and the bytes of a piece, 1,024 of them.
 const RECORDS: usize = 1000000;
@@ -53,6 +54,16 @@ fn take_in(input: &mut [u8], want: usize) -> Taken
     }
 }
 
+// The bytes that are answered: all that came in or, after a failed read, the whole records among them.
+fn answered(taken: Taken) -> usize
+    ensures { λ r. ⌜ r ≤ taken .got ⌝ }
+{
+    if taken.failed {
+        return taken.got / 64 * 64;
+    }
+    taken.got
+}
+
 // The bytes to ask for while so many records may still be read: never one past the last of them.
 fn wanted(left: usize) -> usize
     requires { ⌜ left ≤ 1000000 ⌝ }
@@ -69,14 +80,14 @@ fn write_lines(input: &[u8], got: usize, out: &mut [u8]) -> bool
     io::write_all(STDOUT_FILENO, &out[..n])
 }
 
-// One piece read and answered: how many records may still be read after it, 0 at the end.
+// One piece read and answered: how many records may still be read after it, a piece's fewer, or 0 at the end.
 fn step(input: &mut [u8], out: &mut [u8], left: usize) -> usize
     requires { ⌜ (65536 ≤ length (now input)) × (160925 ≤ length (now out)) × (0 < left) × (left ≤ 1000000) ⌝ }
-    ensures { λ r. ⌜ r < left ⌝ }
+    ensures { λ r. ⌜ Leaves left r ⌝ }
 {
     let want = wanted(left);
     let taken = take_in(input, want);
-    let got = taken.got;
+    let got = answered(taken);
     if taken.failed {
         io::write_all(
             STDERR_FILENO,

@@ -1,5 +1,5 @@
 -- The settings of a checked configuration keep the limits of an output: the input by its kind, P divider by divider.
-use Prim.Native.Nat.{ℕ, _≤_}
+use Prim.Native.Nat.{ℕ}
 use mathlib.Core.Path.{_≡_}
 use native.Mathlib.Omega.{arith}
 use Rattle.kinds.specs.Config.{inputOf}

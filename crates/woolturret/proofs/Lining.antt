@@ -20,7 +20,7 @@ module _ {s t line : List ℕ} {r : Placed} (l : length s ≡ 157) (w : Placing 
   line-length {n} e = let h = next in let z : n ≡ 0 + length line = cc in omega arith
 
   pub lined : {n : ℕ} → r ≡ Next n → Lines line s n t
-  lined e = record { answer = line-length e; holds = w .holds ∙ rw l }
+  lined e = record { answer = line-length e; holds = w .holds ∙ rw l; fits = let h = line-short in omega arith }
 
   pub line-room : r ≡ NoRoom → {A : Type 0} → A
   line-room e = absurd (let h = next in let z : _≡_ {A = ℕ} 0 1 = cc in omega arith)

@@ -1,4 +1,4 @@
--- `limits::outside` meets its contract: each branch by its test.
+-- `limits::beyond` meets its contract: each branch by its test.
 use borrow.Author.Tests.{lt-leb, le-leb}
 use Rattle.kinds.specs.Limits.{outsideOf}
 use Rattle.plan.proofs.limits.beyond.Statement.{statement}
