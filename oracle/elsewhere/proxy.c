@@ -98,38 +98,34 @@ uint32_t woolturret_set(const uint8_t *bytes, size_t length, uint32_t setter, ui
     return ask_with_out(&c, out, MOST_OUT);
 }
 
+/* A call with a record and those of the three lent buffers that its function has; the others are null. */
+static uint32_t ask_with_lent(uint32_t function, const uint8_t *bytes, size_t length, uint32_t *config, uint32_t *clocks, uint32_t *passes)
+{
+    struct call c = {.function = function};
+    put_bytes(&c, bytes, length);
+    if (config) memcpy(c.lent.out, config, sizeof c.lent.out);
+    if (clocks) memcpy(c.lent.clocks, clocks, sizeof c.lent.clocks);
+    if (passes) c.lent.passes = *passes;
+    struct reply r = ask(&c);
+    if (config) memcpy(config, r.lent.out, sizeof r.lent.out);
+    if (clocks) memcpy(clocks, r.lent.clocks, sizeof r.lent.clocks);
+    if (passes) *passes = r.lent.passes;
+    return r.answer;
+}
+
 uint32_t woolturret_configure(const uint8_t *bytes, size_t length, uint32_t config[30], uint32_t *passes)
 {
-    struct call c = {.function = CONFIGURE, .lent.passes = *passes};
-    put_bytes(&c, bytes, length);
-    memcpy(c.lent.out, config, sizeof c.lent.out);
-    struct reply r = ask(&c);
-    memcpy(config, r.lent.out, sizeof r.lent.out);
-    *passes = r.lent.passes;
-    return r.answer;
+    return ask_with_lent(CONFIGURE, bytes, length, config, NULL, passes);
 }
 
 uint32_t woolturret_derive(const uint8_t *bytes, size_t length, uint32_t clocks[16])
 {
-    struct call c = {.function = DERIVE};
-    put_bytes(&c, bytes, length);
-    memcpy(c.lent.clocks, clocks, sizeof c.lent.clocks);
-    struct reply r = ask(&c);
-    memcpy(clocks, r.lent.clocks, sizeof r.lent.clocks);
-    return r.answer;
+    return ask_with_lent(DERIVE, bytes, length, NULL, clocks, NULL);
 }
 
 uint32_t woolturret_plan(const uint8_t *bytes, size_t length, uint32_t config[30], uint32_t clocks[16], uint32_t *passes)
 {
-    struct call c = {.function = PLAN, .lent.passes = *passes};
-    put_bytes(&c, bytes, length);
-    memcpy(c.lent.out, config, sizeof c.lent.out);
-    memcpy(c.lent.clocks, clocks, sizeof c.lent.clocks);
-    struct reply r = ask(&c);
-    memcpy(config, r.lent.out, sizeof r.lent.out);
-    memcpy(clocks, r.lent.clocks, sizeof r.lent.clocks);
-    *passes = r.lent.passes;
-    return r.answer;
+    return ask_with_lent(PLAN, bytes, length, config, clocks, passes);
 }
 
 uint32_t woolturret_line(const uint8_t *bytes, size_t length, uint8_t out[157])
