@@ -9,8 +9,8 @@ use super::Sai;
 ghost use mathlib.Core.Path.{_≡_};
 ghost use Rattle.kinds.specs.Limits as spec;
 
-// The refusal k where x lies outside lo to hi, else 0: the one range test of every limit from 1 to 6.
-pub(crate) fn outside(lo: u32, hi: u32, k: u8, x: u32) -> u8
+// The refusal k where x lies outside lo to hi, else 0: the one range test of every limit from 1 to 6, and of a poll limit.
+pub fn outside(lo: u32, hi: u32, k: u8, x: u32) -> u8
     ensures { λ r. ⌜ r ≡ spec.outsideOf lo hi k x ⌝ }
 {
     if x < lo {

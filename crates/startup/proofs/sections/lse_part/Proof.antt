@@ -1,0 +1,42 @@
+-- `lse_part` meets its contract: by whether LSE is given, and how.
+use Rattle.startup.proofs.Runs.{idle}
+use borrow.Author.Needs.{needs}
+use Rattle.startup.proofs.sections.lse_part.Statement.{statement}
+use Rattle.startup.proofs.sections.lse_part.Tie as tie
+
+enum-told : tie.Need-enum-told
+enum-told c = search needs
+
+enum-told-2 : tie.Need-enum-told-2
+enum-told-2 c = search needs
+
+crystal-requires : tie.Need-crystal-requires
+crystal-requires c κs = search needs
+
+enum-told-3 : tie.Need-enum-told-3
+enum-told-3 c = search needs
+
+crystal-requires-2 : tie.Need-crystal-requires-2
+crystal-requires-2 c κs = search needs
+
+returns : tie.Need-returns
+returns c = rw (c .enum-told .given .1) idle
+
+returns-2 : tie.Need-returns-2
+returns-2 c = rw (c .before .enum-told2 .given .1) (c .crystal .ensures)
+
+returns-3 : tie.Need-returns-3
+returns-3 c = rw (c .before .enum-told3 .given .1) (c .crystal2 .ensures)
+
+pub lse-part-spec : {M : Type 1} → statement M
+lse-part-spec =
+    tie.close
+    (tie.spec
+    enum-told
+    enum-told-2
+    crystal-requires
+    enum-told-3
+    crystal-requires-2
+    returns
+    returns-2
+    returns-3)

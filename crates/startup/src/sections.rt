@@ -1,0 +1,246 @@
+// The sections of document 01's list of stores and waits, in its order, each as `freeze` of rcc.rs has it.
+use super::machine::Machine;
+use super::machine::set;
+use super::machine::store;
+use super::machine::wait;
+use super::registers;
+use clocks::InternalRCCConfig;
+use kinds::Choice48;
+use kinds::HSEClock;
+use kinds::I2s;
+use kinds::LSEClock;
+use kinds::Mco;
+use kinds::Pll;
+use kinds::Sai;
+ghost use mathlib.Core.Path.{_≡_};
+ghost use Prim.Native.Nat.{_<_};
+ghost use Rattle.startup.specs.Places as places;
+ghost use Rattle.startup.specs.Machine.{Room, Ran, Puts};
+ghost use Rattle.startup.specs.Order.{hsiOps, crystalOps, hseOps, pllOn, overOps, chosen, pllStored, pllOps, lseOps, lsiOps, saiOps, choiceOps, i2sOps, swOf, lastOps};
+
+// HSION; W; SW = HSI.
+pub fn hsi_part(m: Machine, answers: &[u8], limit: u32) -> Machine
+    requires { ⌜ Room 0 limit m ⌝ }
+    ensures { λ r. ⌜ Ran (now (answers .entry)) limit m hsiOps 1 r ⌝ }
+{
+    let a = set(m, registers::HSION, 1);
+    let b = wait(a, answers, limit, 1);
+    set(b, registers::SW, 0)
+}
+
+// An oscillator's bypass bit and its ON bit, at their places; then its wait.
+fn crystal(
+    m: Machine,
+    answers: &[u8],
+    limit: u32,
+    byp: usize,
+    on: usize,
+    number: u8,
+    bypass: u32,
+) -> Machine
+    requires { ⌜ Room 5 limit m × (byp < places.PLACES) × (on < places.PLACES) ⌝ }
+    ensures { λ r. ⌜ Ran (now (answers .entry)) limit m (crystalOps byp on number bypass) 1 r ⌝ }
+{
+    let a = set(m, byp, bypass);
+    let b = set(a, on, 1);
+    wait(b, answers, limit, number)
+}
+
+// HSE given: HSEBYP; HSEON; W.
+pub fn hse_part(m: Machine, answers: &[u8], limit: u32, hse: HSEClock) -> Machine
+    requires { ⌜ Room 1 limit m ⌝ }
+    ensures { λ r. ⌜ Ran (now (answers .entry)) limit m (hseOps hse) 1 r ⌝ }
+{
+    match hse {
+        HSEClock::Absent => m,
+        HSEClock::Oscillator(_) => crystal(
+            m,
+            answers,
+            limit,
+            registers::HSEBYP,
+            registers::HSEON,
+            2,
+            0,
+        ),
+        HSEClock::Bypass(_) => crystal(
+            m,
+            answers,
+            limit,
+            registers::HSEBYP,
+            registers::HSEON,
+            2,
+            1,
+        ),
+    }
+}
+
+// PLLON = 0; the five PLL fields; PWREN; VOS; PLLON = 1; W.
+fn pll_on(m: Machine, answers: &[u8], limit: u32, hse: HSEClock, pll: Pll, vos: u32) -> Machine
+    requires { ⌜ Room 2 limit m ⌝ }
+    ensures { λ r. ⌜ Ran (now (answers .entry)) limit m (pllOn hse pll vos) 1 r ⌝ }
+{
+    let a = set(m, registers::PLLON, 0);
+    let file = a.file;
+    let b = store(a, registers::pllcfgr(file, hse, pll));
+    let d = set(b, registers::PWREN, 1);
+    let e = set(d, registers::VOS, vos);
+    let f = set(e, registers::PLLON, 1);
+    wait(f, answers, limit, 3)
+}
+
+// With over-drive: ODEN; W; ODSWEN; W.
+fn over_drive(m: Machine, answers: &[u8], limit: u32, overdrive: bool) -> Machine
+    requires { ⌜ Room 3 limit m ⌝ }
+    ensures { λ r. ⌜ Ran (now (answers .entry)) limit m (overOps overdrive) 2 r ⌝ }
+{
+    if overdrive {
+        let a = set(m, registers::ODEN, 1);
+        let b = wait(a, answers, limit, 4);
+        let d = set(b, registers::ODSWEN, 1);
+        wait(d, answers, limit, 5)
+    } else {
+        m
+    }
+}
+
+// Whether a 48 MHz clock is chosen.
+fn is_chosen(choice: Choice48) -> bool
+    ensures { λ r. ⌜ r ≡ chosen choice ⌝ }
+{
+    match choice {
+        Choice48::Absent => false,
+        Choice48::Pllq => true,
+        Choice48::Pllsai => true,
+    }
+}
+
+// Whether the PLL's fields are stored: use_pll or a 48 MHz choice.
+fn is_stored(pll: Pll) -> bool
+    ensures { λ r. ⌜ r ≡ pllStored pll ⌝ }
+{
+    let choice = pll.pll48clk;
+    if pll.use_pll { true } else { is_chosen(choice) }
+}
+
+// The PLL, voltage and over-drive.
+pub fn pll_part(
+    m: Machine,
+    answers: &[u8],
+    limit: u32,
+    hse: HSEClock,
+    pll: Pll,
+    config: InternalRCCConfig,
+) -> Machine
+    requires { ⌜ Room 2 limit m ⌝ }
+    ensures { λ r. ⌜ Ran (now (answers .entry)) limit m (pllOps hse pll config) 3 r ⌝ }
+{
+    if is_stored(pll) {
+        let a = pll_on(m, answers, limit, hse, pll, config.vos_scale as u32);
+        over_drive(a, answers, limit, config.overdrive)
+    } else {
+        m
+    }
+}
+
+// LSE: LSEBYP; LSEON; W.
+pub fn lse_part(m: Machine, answers: &[u8], limit: u32, lse: LSEClock) -> Machine
+    requires { ⌜ Room 5 limit m ⌝ }
+    ensures { λ r. ⌜ Ran (now (answers .entry)) limit m (lseOps lse) 1 r ⌝ }
+{
+    match lse {
+        LSEClock::Absent => m,
+        LSEClock::Oscillator => crystal(
+            m,
+            answers,
+            limit,
+            registers::LSEBYP,
+            registers::LSEON,
+            6,
+            0,
+        ),
+        LSEClock::Bypass => crystal(m, answers, limit, registers::LSEBYP, registers::LSEON, 6, 1),
+    }
+}
+
+// LSI: LSION; W.
+pub fn lsi_part(m: Machine, answers: &[u8], limit: u32, lsi: bool) -> Machine
+    requires { ⌜ Room 6 limit m ⌝ }
+    ensures { λ r. ⌜ Ran (now (answers .entry)) limit m (lsiOps lsi) 1 r ⌝ }
+{
+    if lsi {
+        let a = set(m, registers::LSION, 1);
+        wait(a, answers, limit, 7)
+    } else {
+        m
+    }
+}
+
+// PLLSAI: its three fields; PLLSAION. Nothing waits for it.
+pub fn sai_part(m: Machine, sai: Sai) -> Machine
+    ensures { λ r. ⌜ Puts m (saiOps sai) r ⌝ }
+{
+    if sai.use_pllsai {
+        let file = m.file;
+        let a = store(m, registers::pllsaicfgr(file, sai));
+        set(a, registers::PLLSAION, 1)
+    } else {
+        m
+    }
+}
+
+// 48 MHz choice: CK48MSEL, 1 for PLLSAI.
+pub fn choice_part(m: Machine, choice: Choice48) -> Machine
+    ensures { λ r. ⌜ Puts m (choiceOps choice) r ⌝ }
+{
+    match choice {
+        Choice48::Absent => m,
+        Choice48::Pllq => set(m, registers::CK48MSEL, 0),
+        Choice48::Pllsai => set(m, registers::CK48MSEL, 1),
+    }
+}
+
+// PLLI2S: its three fields; PLLI2SON. Nothing waits for it.
+pub fn i2s_part(m: Machine, i2s: I2s) -> Machine
+    ensures { λ r. ⌜ Puts m (i2sOps i2s) r ⌝ }
+{
+    if i2s.use_plli2s {
+        let file = m.file;
+        let a = store(m, registers::plli2scfgr(file, i2s));
+        set(a, registers::PLLI2SON, 1)
+    } else {
+        m
+    }
+}
+
+// SW: PLL if use_pll, else HSE if given, else HSI.
+pub fn sw(hse: HSEClock, pll: Pll) -> u32
+    ensures { λ r. ⌜ r ≡ swOf hse pll ⌝ }
+{
+    if pll.use_pll {
+        2
+    } else {
+        registers::pllsrc(hse)
+    }
+}
+
+// The four MCO fields; LATENCY; PPRE1, PPRE2, HPRE; SW; W.
+pub fn last_part(
+    m: Machine,
+    answers: &[u8],
+    limit: u32,
+    mco: Mco,
+    config: InternalRCCConfig,
+    sw: u32,
+) -> Machine
+    requires { ⌜ Room 7 limit m ⌝ }
+    ensures { λ r. ⌜ Ran (now (answers .entry)) limit m (lastOps mco config sw) 1 r ⌝ }
+{
+    let file = m.file;
+    let a = store(m, registers::mco(file, mco));
+    let file = a.file;
+    let b = store(a, registers::acr(file, config));
+    let file = b.file;
+    let d = store(b, registers::prescalers(file, config));
+    let e = set(d, registers::SW, sw);
+    wait(e, answers, limit, 8)
+}
