@@ -13,10 +13,13 @@
  *   9 PLLSAI used, its VCO outside 192 to 432 MHz
  *  10 PLLSAI used, its P output above 48 MHz
  *  11 PLLI2S used, its VCO outside 192 to 432 MHz
- *  14 malformed request record; of woolturret_set also a setter or a code that there is not
- * All ends are inclusive; of several numbers the least is given, 14 before any.
- * What can't be checked here is asked of the caller: a pointer points to as many elements as its declaration says, and what is
- * written overlaps neither bytes nor anything else that is written.
+ *  12 a wait not answered within the poll limit
+ *  13 poll limit outside 1..65,535
+ *  14 malformed request record; of woolturret_set also a setter or a code that there is not, of woolturret_start also a register
+ *     file that is not 35 numbers
+ * All ends are inclusive; of several numbers 13 is given first, then 14, then the least number; 12 comes as the waits come.
+ * What can't be checked here is asked of the caller: a pointer points to as many elements as its declaration or the length beside
+ * it says, and what is written overlaps neither what is read nor anything else that is written.
  */
 #ifndef WOOLTURRET_H
 #define WOOLTURRET_H
@@ -89,6 +92,51 @@ uint32_t woolturret_plan(const uint8_t *bytes, size_t length, uint32_t config[30
  * Bytes of any length have one: "no 14" for any but 64. Answers the line's length; the rest of out is as it was, so no zero
  * byte ends it. */
 uint32_t woolturret_line(const uint8_t *bytes, size_t length, uint8_t out[157]);
+
+/* What a start came to. */
+struct woolturret_started {
+    uint32_t refusal; /* 0 done or cut; else the refusal's number */
+    uint32_t cut;     /* 1 if it ended at the cut, else 0 */
+    uint32_t wait;    /* with 12 the wait that was not answered; else 0 */
+    uint32_t polls;   /* polls made; 0 with any refusal but 12 */
+};
+
+/* A start: the Rust's freeze on the configuration that a request record holds, over a lent register file. It plans for itself.
+ *
+ * The file is places numbers, which must be 35 (else 14), each a field of a register:
+ *    0 HSION, 1 HSEBYP, 2 HSEON, 3 PLLON, 4 PLLSAION, 5 PLLI2SON;
+ *    6 SW (0 HSI, 1 HSE, 2 PLL), 7 MCO1, 8 MCO1PRE, 9 MCO2, 10 MCO2PRE, 11 PPRE1, 12 PPRE2, 13 HPRE;
+ *   14 PLLM, 15 PLLN, 16 PLLP, 17 PLLQ, 18 PLLSRC (1 with HSE);   19 PWREN;   20 VOS (the scale, 1 to 3), 21 ODEN, 22 ODSWEN;
+ *   23 LSEBYP, 24 LSEON;   25 LSION;   26 PLLSAIN, 27 PLLSAIP, 28 PLLSAIQ;   29 CK48MSEL (1 for PLLSAI);
+ *   30 PLLI2SN, 31 PLLI2SR, 32 PLLI2SQ;   33 LATENCY (wait states), 34 the other bits of ACR.
+ * PLLP, PLLSAIP and the MCO fields hold their codes as woolturret_set has them, HPRE and the PPREs as woolturret_derive; flags
+ * are 0 or 1. It may hold anything before the start, and what no store names is left as it was.
+ *
+ * The stores, divided by semicolons (a flag is stored as 1 unless said), and the waits, by number:
+ *   HSION; wait 1 HSI; SW = HSI;
+ *   with HSE: HSEBYP (1 for bypass); HSEON; wait 2 HSE;
+ *   with the PLL used or a 48 MHz choice: PLLON = 0; PLLM, PLLN, PLLP, PLLQ, PLLSRC; PWREN; VOS; PLLON; wait 3 PLL;
+ *     and with over-drive: ODEN; wait 4 ODEN; ODSWEN; wait 5 ODSWEN;
+ *   with LSE: LSEBYP (1 for bypass); LSEON; wait 6 LSE;   with LSI: LSION; wait 7 LSI;
+ *   with PLLSAI: PLLSAIN, PLLSAIP, PLLSAIQ; PLLSAION;   with a 48 MHz choice: CK48MSEL;
+ *   with PLLI2S: PLLI2SN, PLLI2SR, PLLI2SQ; PLLI2SON;
+ *   MCO1, MCO1PRE, MCO2, MCO2PRE; LATENCY with the other bits of ACR 0; PPRE1, PPRE2, HPRE; SW (the plan's source); wait 8 SW.
+ *
+ * A wait polls until it is answered, at most limit times (1 to 65,535, else 13). Each poll takes the next of the answered bytes
+ * of answers, one row for all waits: 1 is ready, any other byte is not. A poll past the end takes nothing, is not ready and
+ * counts. So a start polls at most eight times the limit.
+ * The start is cut right after so many stores as cut says: 0 cuts it before the first, the number of its stores after the last
+ * and before its wait, a number above that cuts nothing. An unanswered wait before the cut comes first.
+ *
+ * Answers refusal 0: file as its stores made it, clocks those of the plan, as woolturret_plan has them, also where it was cut; or
+ * 12: file as the stores before that wait made it, clocks as they were, wait its number; or 1 to 7, 9 to 11, 13 or 14: file and
+ * clocks as they were, cut, wait and polls 0. Nothing is stored before 1 to 11, 13 and 14 are checked.
+ * To go on after a cut or an unanswered wait call it again, with the file as it was left: all stores are made anew, and with
+ * every wait answered the file ends as that of a start that was never cut. */
+struct woolturret_started woolturret_start(const uint8_t *bytes, size_t length,
+                                           uint32_t *file, size_t places,
+                                           const uint8_t *answers, size_t answered,
+                                           uint32_t limit, uint8_t cut, uint32_t clocks[16]);
 
 #ifdef __cplusplus
 }

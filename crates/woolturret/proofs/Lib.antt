@@ -3,3 +3,6 @@ pub mod Lists
 pub mod Replying
 pub mod Planning
 pub mod Lining
+pub mod Copying
+pub mod Starting
+pub mod Untouched

@@ -5,3 +5,4 @@ pub mod Answers
 pub mod Replies
 pub mod Plans
 pub mod Lines
+pub mod Starts

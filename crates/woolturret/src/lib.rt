@@ -3,6 +3,7 @@ mod answers;
 mod numbers;
 mod plans;
 mod setters;
+mod starts;
 
 use answer::put_answer;
 use clocks::calculate_clocks;
@@ -15,6 +16,7 @@ use plan::plan;
 use pll::Outcome;
 use record::Reading;
 use setters::Named;
+use startup::limit_refusal;
 use text::Placed;
 ghost use mathlib.Core.Path.{_≡_};
 ghost use Rattle.record.specs.Reading.{readOf};
@@ -25,6 +27,7 @@ ghost use Rattle.woolturret.specs.Answers.{windowOf};
 ghost use Rattle.woolturret.specs.Replies.{Replied, checkReply, setReply, callReply, searchReply, Told};
 ghost use Rattle.woolturret.specs.Plans.{Configures, configureReply, Derives, deriveReply, Plans, planReply};
 ghost use Rattle.woolturret.specs.Lines.{Lines};
+ghost use Rattle.woolturret.specs.Starts.{Starts, startReply};
 ghost use Rattle.woolturret.specs.Named.{namedOf};
 
 // The check of 1 to 6 of the configuration that a record holds: 0 where nothing is refused, 14 for a malformed record.
@@ -168,5 +171,37 @@ pub extern "C" fn woolturret_line(bytes: &[u8], out: &mut [u8; 157]) -> u32
     match put_answer(bytes, line, 0) {
         Placed::Next(next) => next as u32,
         Placed::NoRoom => 0,
+    }
+}
+
+// What a start came to: 0 or its refusal's number; 1 if it ended at the cut; the wait that 12 names, else 0; the polls made.
+#[repr(C)]
+pub struct Report {
+    pub refusal: u32,
+    pub cut: u32,
+    pub wait: u32,
+    pub polls: u32,
+}
+
+// A start of the configuration that a record holds, over the lent file, one byte of answers a poll. Accepted, clocks are the plan's;
+// 12 leaves the file as the stores so far made it, and any other refusal leaves it as it was.
+#[no_mangle]
+pub extern "C" fn woolturret_start(
+    bytes: &[u8],
+    file: &mut [u32],
+    answers: &[u8],
+    limit: u32,
+    cut: u8,
+    clocks: &mut [u32; 16],
+) -> Report
+    ensures { λ r. ⌜ Starts (startReply (readOf (now (bytes .entry))) (now (file .entry)) limit (now (answers .entry)) cut (now (clocks .entry))) r (now (file .exit)) (now (clocks .exit)) ⌝ }
+{
+    let number = limit_refusal(limit) as u32;
+    if number != 0 {
+        return starts::refused(number);
+    }
+    match record::read_record(bytes) {
+        Reading::Malformed(_) => starts::refused(14),
+        Reading::Config(cfgr) => starts::placed(cfgr, file, answers, limit, cut, clocks),
     }
 }

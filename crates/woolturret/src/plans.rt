@@ -11,7 +11,7 @@ ghost use mathlib.Core.Path.{_≡_};
 ghost use Rattle.woolturret.specs.Plans as spec;
 
 // SYSCLK, HCLK, PCLK1, PCLK2, both timers; HPRE, PPRE1, PPRE2, wait states, scale, over-drive; 48 MHz valid, HSE, LSE, LSI.
-fn clock_numbers(clocks: Clocks, config: InternalRCCConfig) -> [u32; 16]
+pub(crate) fn clock_numbers(clocks: Clocks, config: InternalRCCConfig) -> [u32; 16]
     ensures { λ r. ⌜ r ≡ spec.clockNumbers clocks config ⌝ }
 {
     let hse = clocks.hse;
