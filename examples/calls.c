@@ -1,4 +1,5 @@
-/* Every function from C: the PLL settings that some boards get, a setter tried on a request record, and a record planned. */
+/* Every function but the start from C: the PLL settings that some boards get, a setter tried on a request record, and a record
+ * planned. */
 #include <stdio.h>
 #include <string.h>
 #include "woolturret.h"

@@ -1,7 +1,7 @@
 //! What the Rust answers to a record and to a configuration, and, where one of
 //! its assertions fails, the refusal number that document 01 gives it.
 
-use hal::pac::register_file::{self, PLACES};
+use hal::pac::register_file::{self, Event, PLACES};
 use hal::rcc::{self, CFGR};
 
 use crate::clocks::{self, Clocks, Plan};
@@ -80,13 +80,6 @@ pub fn clocks_of(cfgr: &CFGR) -> Clocks {
     ]
 }
 
-/// `freeze` itself, over modelled registers that are all 0: the clocks that it hands back, or
-/// 7, 9, 10 or 11.
-pub fn frozen(rust: &Assertions, numbers: &Numbers) -> Result<[u32; 10], u32> {
-    register_file::load([0; PLACES]);
-    caught(rust, || handed(CFGR::of_numbers(numbers).freeze()))
-}
-
 /// The frequencies, whether the 48 MHz clock is valid, and HSE, LSE, LSI (0 where absent).
 fn handed(clocks: rcc::Clocks) -> [u32; 10] {
     [
@@ -106,15 +99,32 @@ fn handed(clocks: rcc::Clocks) -> [u32; 10] {
 /// No refusal's number: `freeze` handed back other clocks than `calculate_clocks`.
 const OTHER_CLOCKS: u32 = 20_000;
 
-/// A whole plan of a configuration within its limits, or `freeze`'s 7, 9, 10 or 11.
-pub fn planned(rust: &Assertions, numbers: &Numbers) -> Result<Plan, u32> {
-    let frozen = frozen(rust, numbers)?;
+pub type File = [u32; PLACES];
+
+/// What `freeze` came to over a register file.
+pub struct Frozen {
+    pub plan: Plan,
+    /// The stores and waits that it made, and the file that it left.
+    pub log: Vec<Event>,
+    pub last: File,
+}
+
+/// `freeze` itself on a configuration within its limits, or its 7, 9, 10 or 11.
+pub fn frozen(rust: &Assertions, numbers: &Numbers, first: &File) -> Result<Frozen, u32> {
+    register_file::load(*first);
+    let handed = caught(rust, || handed(CFGR::of_numbers(numbers).freeze()))?;
+    let (last, log) = register_file::look();
     let config = configured(rust, numbers)?;
     let clocks = derived(rust, &config)?;
-    if frozen != [&clocks[..clocks::at::HPRE], &clocks[clocks::at::VALID..]].concat()[..] {
+    if handed != [&clocks[..clocks::at::HPRE], &clocks[clocks::at::VALID..]].concat()[..] {
         return Err(OTHER_CLOCKS);
     }
-    Ok((config, clocks))
+    Ok(Frozen { plan: (config, clocks), log, last })
+}
+
+/// A whole plan of a configuration within its limits, or 7, 9, 10 or 11.
+pub fn planned(rust: &Assertions, numbers: &Numbers) -> Result<Plan, u32> {
+    frozen(rust, numbers, &[0; PLACES]).map(|frozen| frozen.plan)
 }
 
 /// The plan of a record, or its refusal.

@@ -65,6 +65,26 @@ pub fn examples() -> Vec<Numbers> {
     ]
 }
 
+/// Each combination of the sections of document 01's list of stores and waits, all accepted.
+pub fn sections() -> Vec<Numbers> {
+    let hse = |kind| [(at::HSE_KIND, kind), (at::HSE, 16 * MHZ)];
+    let sysclk = |mhz| [(at::SYSCLK, 1), (at::SYSCLK + 1, mhz * MHZ)];
+    let parts: [&[Changes]; 7] = [
+        &[&[], &hse(1), &hse(2)],
+        &[&[], &sysclk(144), &sysclk(216)],
+        &[&[], &[(at::LSE_KIND, 1)], &[(at::LSE_KIND, 2)]],
+        &[&[], &[(at::LSI, 1)]],
+        &[&[], &[(at::USE_SAI, 1)]],
+        &[&[], &[(at::CHOICE, 1)], &[(at::CHOICE, 2)]],
+        &[&[], &[(at::USE_I2S, 1)]],
+    ];
+    let with = |all: Vec<Numbers>, part: &&[Changes]| {
+        let each = |numbers| part.iter().map(move |changes| changed(numbers, changes));
+        all.into_iter().flat_map(each).collect()
+    };
+    parts.iter().fold(vec![of_defaults(&[(at::M, 8), (at::SAI_P, 3)])], with)
+}
+
 /// Some configurations of many SYSCLKs, the PLL used by most.
 fn sources() -> Vec<Numbers> {
     let crystal = of_defaults(&[(at::HSE_KIND, 1), (at::HSE, 25 * MHZ)]);

@@ -8,7 +8,7 @@ use crate::library::{self, UNTOUCHED};
 use crate::requests::Requests;
 use crate::rows;
 use crate::run::Run;
-use crate::table::Table;
+use crate::table::{Table, ENOUGH};
 use crate::ways;
 
 struct Configures<'a> {
@@ -30,7 +30,7 @@ pub fn run(run: &mut Run, requests: &Requests) -> u64 {
     }
     let Configures { run, table } = configures;
     say!("configures: {} records", table.total);
-    table.print(run);
+    table.print(run, ENOUGH);
     table.total
 }
 

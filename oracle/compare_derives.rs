@@ -8,7 +8,7 @@ use crate::library::{self, UNTOUCHED};
 use crate::requests::Requests;
 use crate::rows;
 use crate::run::Run;
-use crate::table::Table;
+use crate::table::{Table, ENOUGH};
 
 struct Derives<'a> {
     run: &'a mut Run,
@@ -38,7 +38,7 @@ pub fn run(run: &mut Run, requests: &Requests) -> u64 {
     }
     let Derives { run, table } = derives;
     say!("derives: {} records", table.total);
-    table.print(run);
+    table.print(run, ENOUGH);
     table.total
 }
 

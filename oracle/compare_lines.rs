@@ -11,7 +11,7 @@ use crate::records;
 use crate::requests::Requests;
 use crate::rows;
 use crate::run::Run;
-use crate::table::Table;
+use crate::table::{Table, ENOUGH};
 
 struct Lines<'a> {
     run: &'a mut Run,
@@ -41,7 +41,7 @@ pub fn run(run: &mut Run, requests: &Requests) -> u64 {
     }
     let Lines { run, table, lengths: (least, most) } = lines;
     say!("lines: {} records, the lines of {least} to {most} bytes", table.total);
-    table.print(run);
+    table.print(run, ENOUGH);
     table.total
 }
 

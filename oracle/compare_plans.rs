@@ -9,7 +9,7 @@ use crate::library::{self, UNTOUCHED};
 use crate::requests::Requests;
 use crate::rows;
 use crate::run::Run;
-use crate::table::Table;
+use crate::table::{Table, ENOUGH};
 use crate::ways::{self, Way};
 
 struct Plans<'a> {
@@ -37,7 +37,7 @@ pub fn run(run: &mut Run, requests: &Requests) -> u64 {
     }
     plans.print();
     let Plans { run, table, .. } = plans;
-    table.print(run);
+    table.print(run, ENOUGH);
     table.total
 }
 

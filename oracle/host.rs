@@ -22,6 +22,7 @@ mod compare_outputs;
 mod compare_plans;
 mod compare_searches;
 mod compare_setters;
+mod compare_starts;
 mod configuration;
 mod fleet;
 mod library;
@@ -36,6 +37,9 @@ mod rust_program;
 mod sample;
 mod self_test;
 mod setters;
+mod start_cases;
+mod start_rows;
+mod starts;
 mod table;
 mod tally;
 mod walk;
@@ -52,7 +56,8 @@ use requests::Requests;
 use run::Run;
 
 const USAGE: &str = "usage: host WORDS
-  compare COUNT SEED          the library beside the Rust
+  compare COUNT SEED          the library beside the Rust, but for starts
+  starts COUNT SEED           starts beside the Rust's
   sample FILE                 the records of the gate's sample
   fleet COUNT SEED FILE       the records of a fleet
   lines                       the Rust's lines for the records of standard input
@@ -65,6 +70,7 @@ fn main() -> ExitCode {
     let number = |place: usize| words.get(place).and_then(|word| word.parse::<u64>().ok());
     let done = match (first.as_slice(), number(1), number(2)) {
         (["compare", _, _], Some(count), Some(seed)) => Ok(compare(count, seed)),
+        (["starts", _, _], Some(count), Some(seed)) => Ok(starts(count, seed)),
         (["sample", file], ..) => sample(file),
         (["fleet", _, _, file], Some(count), Some(seed)) => fleet(count, seed, file),
         (["lines"], ..) => lines(),
@@ -88,12 +94,29 @@ fn said(words: Arguments) {
     }
 }
 
-/// The boundary lists whole and `count` random cases in each of the eight comparisons; answers
-/// whether all were equal.
-fn compare(count: u64, seed: u64) -> bool {
+/// A run that has tested the oracle itself.
+fn begun(count: u64, seed: u64) -> Run {
     panics::install();
-    let run = &mut Run::new(count, seed);
+    let mut run = Run::new(count, seed);
     self_test::run(&run.assertions, &mut run.differences);
+    run
+}
+
+/// Tells what was compared and how it came out; answers whether all was equal.
+fn ended(run: &Run, seed: u64, what: Arguments) -> bool {
+    let outcome = match run.differences.0 {
+        0 => "all equal".to_string(),
+        1 => "1 difference".to_string(),
+        several => format!("{several} differences"),
+    };
+    say!("compared with the Rust: {what}: {outcome} (seed {seed})");
+    run.differences.0 == 0
+}
+
+/// The boundary lists whole and `count` random cases in each of the eight comparisons but that
+/// of starts; answers whether all were equal.
+fn compare(count: u64, seed: u64) -> bool {
+    let run = &mut begun(count, seed);
     let calls = compare_setters::run(run);
     let checks = compare_checks::run(run);
     let searches = compare_searches::run(run);
@@ -103,18 +126,19 @@ fn compare(count: u64, seed: u64) -> bool {
     let derives = compare_derives::run(run, requests);
     let plans = compare_plans::run(run, requests);
     let lines = compare_lines::run(run, requests);
-    let differences = run.differences.0;
-    let outcome = match differences {
-        0 => "all equal".to_string(),
-        1 => "1 difference".to_string(),
-        several => format!("{several} differences"),
-    };
-    say!(
-        "compared with the Rust: {calls} setter calls, {checks} checks, {searches} searches, \
-         {outputs} outputs, {configures} configures, {derives} derives, {plans} plans, \
-         {lines} lines: {outcome} (seed {seed})"
+    let what = format_args!(
+        "{calls} setter calls, {checks} checks, {searches} searches, {outputs} outputs, \
+         {configures} configures, {derives} derives, {plans} plans, {lines} lines"
     );
-    differences == 0
+    ended(run, seed, what)
+}
+
+/// The boundary lists whole and `count` random configurations, each started many times; answers
+/// whether all were equal.
+fn starts(count: u64, seed: u64) -> bool {
+    let run = &mut begun(count, seed);
+    let starts = compare_starts::run(run, &Requests::new());
+    ended(run, seed, format_args!("{starts} starts"))
 }
 
 fn sample(file: &str) -> io::Result<bool> {

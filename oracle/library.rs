@@ -16,7 +16,19 @@ pub const LINE: usize = 157;
 
 pub type Window = Option<(u32, u32)>;
 
+/// What a start came to, as the library hands it back.
+#[repr(C)]
+#[derive(Clone, Copy, Debug, Default, PartialEq, Eq)]
+pub struct Started {
+    pub refusal: u32,
+    pub cut: u32,
+    pub wait: u32,
+    pub polls: u32,
+}
+
 mod c {
+    use super::Started;
+
     extern "C" {
         pub fn woolturret_search(
             input: u32,
@@ -53,6 +65,17 @@ mod c {
             passes: *mut u32,
         ) -> u32;
         pub fn woolturret_line(record: *const u8, length: usize, out: *mut u8) -> u32;
+        pub fn woolturret_start(
+            record: *const u8,
+            length: usize,
+            file: *mut u32,
+            places: usize,
+            answers: *const u8,
+            answered: usize,
+            limit: u32,
+            cut: u8,
+            clocks: *mut u32,
+        ) -> Started;
     }
 }
 
@@ -148,4 +171,31 @@ pub fn line(record: &[u8]) -> (u32, [u8; LINE]) {
     // `out` is as long as the function writes.
     let answer = unsafe { c::woolturret_line(record.as_ptr(), record.len(), out.as_mut_ptr()) };
     (answer, out)
+}
+
+/// What the start came to, the file as it left it, and the clocks.
+pub fn start(
+    record: &[u8],
+    first: &[u32],
+    answers: &[u8],
+    limit: u32,
+    cut: u8,
+) -> (Started, Vec<u32>, Clocks) {
+    let (mut file, mut clocks) = (first.to_vec(), [UNTOUCHED; 16]);
+    // SAFETY: each pointer and length are those of one slice, of which `file` alone is written,
+    // and `clocks` is as long as the function writes.
+    let started = unsafe {
+        c::woolturret_start(
+            record.as_ptr(),
+            record.len(),
+            file.as_mut_ptr(),
+            file.len(),
+            answers.as_ptr(),
+            answers.len(),
+            limit,
+            cut,
+            clocks.as_mut_ptr(),
+        )
+    };
+    (started, file, clocks)
 }

@@ -59,7 +59,11 @@ pub const CLOCKS: [Group; 9] = [
 
 /// A number beyond the refusals has no row; it is told as a difference.
 pub fn refusal(number: u32) -> Row {
-    (REFUSAL, NUMBERS.get(number as usize).unwrap_or(&"none"))
+    (REFUSAL, numbered(number))
+}
+
+pub fn numbered(number: u32) -> &'static str {
+    NUMBERS.get(number as usize).unwrap_or(&"none")
 }
 
 /// The way that a configuration within its limits takes.
@@ -78,9 +82,7 @@ pub fn of_way(numbers: &Numbers, answered: bool) -> Row {
 
 /// The rows of clocks that were derived from a configuration as it stands.
 pub fn of_clocks(config: &Numbers, clocks: &Clocks) -> [Row; 9] {
-    let numbered = |group: usize, place: usize| {
-        (CLOCKS[group].0, *NUMBERS.get(clocks[place] as usize).unwrap_or(&"none"))
-    };
+    let numbered = |group: usize, place: usize| (CLOCKS[group].0, numbered(clocks[place]));
     let capped = |group: usize, place: usize| (CLOCKS[group].0, cap(config, clocks, place));
     [
         numbered(0, at::HPRE),

@@ -1,12 +1,15 @@
 //! Whether the oracle itself stands: the assertions found, the defaults, one
-//! plan of document 01, and the log of two runs of the Rust's own `freeze`.
+//! plan of document 01, the log of two runs of the Rust's own `freeze`, and the
+//! polls and the cut of starts over one of them.
 
 use hal::pac::register_file::{self, Event, PLACES};
 use hal::rcc::CFGR;
 
 use crate::configuration::at;
+use crate::library::Started;
 use crate::panics::Assertions;
 use crate::records;
+use crate::starts::{self, Asked};
 use crate::tally::Differences;
 
 const DEFAULT_LOG: &str = "HSION=1; W1; SW=0; MCO1=0 MCO1PRE=0 MCO2=0 MCO2PRE=0; \
@@ -17,6 +20,19 @@ const FULL_LOG: &str = "HSION=1; W1; SW=0; HSEBYP=1; HSEON=1; W2; PLLON=0; \
     ODSWEN=1; W5; LSEBYP=1; LSEON=1; W6; LSION=1; W7; PLLSAIN=300 PLLSAIP=3 PLLSAIQ=7; \
     PLLSAION=1; CK48MSEL=1; PLLI2SN=200 PLLI2SR=3 PLLI2SQ=5; PLLI2SON=1; \
     MCO1=1 MCO1PRE=2 MCO2=3 MCO2PRE=4; LATENCY=7 OTHER=0; PPRE1=5 PPRE2=4 HPRE=8; SW=2; W8";
+
+/// Starts of the full log by document 01: answers, limit, cut; refusal, cut, wait, polls.
+const STARTS: [(&[u8], u32, u8, [u32; 4]); 9] = [
+    (&[1; 8], 1, 255, [0, 0, 0, 8]),
+    (&[1; 8], 1, 24, [0, 0, 0, 8]),
+    (&[1; 8], 1, 23, [0, 1, 0, 7]),
+    (&[], 1, 0, [0, 1, 0, 0]),
+    (&[], 1, 1, [0, 1, 0, 0]),
+    (&[], 65_535, 2, [12, 0, 1, 65_535]),
+    (&[0, 2, 1, 255, 1, 1], 3, 10, [0, 1, 0, 6]),
+    (&[0, 2, 1, 255, 1, 1], 3, 255, [12, 0, 4, 9]),
+    (&[0, 2, 1, 255, 1, 1], 2, 255, [12, 0, 1, 2]),
+];
 
 /// Silent unless something is wrong, which counts as a difference.
 pub fn run(assertions: &Assertions, differences: &mut Differences) {
@@ -34,6 +50,13 @@ pub fn run(assertions: &Assertions, differences: &mut Differences) {
     full[at::SAI_P] = 3;
     full[at::HCLK + 1] = 108_000_000;
     hold("freeze with all in use", frozen(CFGR::of_numbers(&full)), FULL_LOG.into());
+    let log = register_file::look().1;
+    for (answers, limit, cut, expected) in STARTS {
+        let asked = Asked { answers: answers.to_vec(), limit, cut };
+        let Started { refusal, cut, wait, polls } = starts::start(&log, &[0; PLACES], &asked).0;
+        let what = format!("start with {}", asked.told());
+        hold(&what, format!("{:?}", [refusal, cut, wait, polls]), format!("{expected:?}"));
+    }
 }
 
 /// HSI, 216 MHz and PLLQ sought: M, N, P code, Q; SYSCLK; the field codes; 48 MHz valid.

@@ -1,9 +1,10 @@
-//! How often each kind of answer came out, a row for each kind. In a run of at least 50,000
-//! random cases a row that never came out is a difference: nothing was compared there.
+//! How often each kind of answer came out, a row for each kind. In a run of enough random cases
+//! a row that never came out is a difference: nothing was compared there.
 
 use crate::run::Run;
 
-const ENOUGH: u64 = 50_000;
+/// The random cases from which on each row of a plan and of its parts must come out.
+pub const ENOUGH: u64 = 50_000;
 
 /// A group of rows, and the rows.
 pub type Group = (&'static str, &'static [&'static str]);
@@ -45,13 +46,13 @@ impl Table {
     }
 
     /// One line for each group.
-    pub fn print(&self, run: &mut Run) {
+    pub fn print(&self, run: &mut Run, enough: u64) {
         for (group, rows) in &self.groups {
             let row: Vec<String> =
                 rows.iter().map(|(row, count)| format!("{row}: {count}")).collect();
             say!("{} by {group}: {}", self.what, row.join(", "));
         }
-        if run.count >= ENOUGH {
+        if run.count >= enough {
             let what = || format!("{}, rows that never came out", self.what);
             run.differences.compare(self.missing(), Vec::new(), what);
         }

@@ -3,9 +3,10 @@
 #define CALLS_H
 
 #include <stdint.h>
+#include "woolturret.h"
 
-enum { SEARCH = 1, CHECK, SET, OUTPUT, CONFIGURE, DERIVE, PLAN, LINE };
-enum { MOST_BYTES = 256, MOST_OUT = 30, MOST_CLOCKS = 16, MOST_TEXT = 157 };
+enum { SEARCH = 1, CHECK, SET, OUTPUT, CONFIGURE, DERIVE, PLAN, LINE, START };
+enum { MOST_BYTES = 256, MOST_OUT = 30, MOST_CLOCKS = 16, MOST_TEXT = 157, MOST_PLACES = 64, MOST_ANSWERS = 8 * 65535 };
 
 /* What a caller lends: it goes there and comes back, so that what the library leaves alone is left alone here. */
 struct lent {
@@ -28,5 +29,33 @@ struct reply {
     uint32_t answer;
     struct lent lent;
 };
+
+/* What a start has besides, there and back: no other call is made longer by it. */
+struct start {
+    struct woolturret_started started;
+    uint32_t limit;
+    uint32_t cut;
+    uint64_t places;
+    uint64_t answered;
+    uint32_t file[MOST_PLACES];
+};
+
+/* A start's call; of the answers only so many are sent as there are. */
+struct start_call {
+    struct call call;
+    struct start start;
+    uint8_t answers[MOST_ANSWERS];
+};
+
+struct start_reply {
+    struct reply reply;
+    struct start start;
+};
+
+/* How many of count elements go through the pipe. */
+static inline uint64_t sent(uint64_t count, uint64_t most)
+{
+    return count < most ? count : most;
+}
 
 #endif

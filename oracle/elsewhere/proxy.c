@@ -1,11 +1,11 @@
 /* The library's functions on a machine that is not x86-64: each call goes through a pipe to serve.c, which runs with the real
  * library under the toolchain's emulator. EMULATOR, LOADER, LIBRARIES and SERVER are given by the build. */
+#include <stddef.h>
 #include <stdio.h>
 #include <stdlib.h>
 #include <string.h>
 #include <unistd.h>
 #include "calls.h"
-#include "woolturret.h"
 
 static int to_server = -1;
 static int from_server = -1;
@@ -16,7 +16,7 @@ static void stop(const char *why)
     exit(1);
 }
 
-static void start(void)
+static void start_server(void)
 {
     int calls[2], replies[2];
     if (pipe(calls) != 0 || pipe(replies) != 0)
@@ -38,19 +38,28 @@ static void start(void)
     from_server = replies[0];
 }
 
-static struct reply ask(const struct call *c)
+static void exchange(const void *call, size_t call_length, void *reply, size_t reply_length)
 {
     if (to_server < 0)
-        start();
-    if (write(to_server, c, sizeof *c) != (ssize_t)sizeof *c)
-        stop("it takes no call");
-    struct reply r;
-    for (size_t had = 0; had < sizeof r;) {
-        ssize_t got = read(from_server, (char *)&r + had, sizeof r - had);
+        start_server();
+    for (size_t had = 0; had < call_length;) {
+        ssize_t put = write(to_server, (const char *)call + had, call_length - had);
+        if (put <= 0)
+            stop("it takes no call");
+        had += (size_t)put;
+    }
+    for (size_t had = 0; had < reply_length;) {
+        ssize_t got = read(from_server, (char *)reply + had, reply_length - had);
         if (got <= 0)
             stop("it gives no reply");
         had += (size_t)got;
     }
+}
+
+static struct reply ask(const struct call *c)
+{
+    struct reply r;
+    exchange(c, sizeof *c, &r, sizeof r);
     return r;
 }
 
@@ -58,7 +67,7 @@ static struct reply ask(const struct call *c)
 static void put_bytes(struct call *c, const uint8_t *bytes, size_t length)
 {
     c->length = length;
-    memcpy(c->bytes, bytes, length < MOST_BYTES ? length : MOST_BYTES);
+    memcpy(c->bytes, bytes, sent(length, MOST_BYTES));
 }
 
 static uint32_t ask_with_out(struct call *c, uint32_t *out, size_t count)
@@ -136,4 +145,24 @@ uint32_t woolturret_line(const uint8_t *bytes, size_t length, uint8_t out[157])
     struct reply r = ask(&c);
     memcpy(out, r.lent.text, sizeof r.lent.text);
     return r.answer;
+}
+
+/* Places past MOST_PLACES stay here too: a file that is not 35 long is neither read nor written. So do answers past MOST_ANSWERS:
+ * no start polls more often. The library is told the true lengths. */
+struct woolturret_started woolturret_start(const uint8_t *bytes, size_t length, uint32_t *file, size_t places,
+                                           const uint8_t *answers, size_t answered, uint32_t limit, uint8_t cut,
+                                           uint32_t clocks[16])
+{
+    static struct start_call c; /* too large for a stack */
+    struct start_reply r;
+    c.call.function = START;
+    c.start = (struct start){.limit = limit, .cut = cut, .places = places, .answered = answered};
+    put_bytes(&c.call, bytes, length);
+    memcpy(c.call.lent.clocks, clocks, sizeof c.call.lent.clocks);
+    memcpy(c.start.file, file, sent(places, MOST_PLACES) * sizeof *file);
+    memcpy(c.answers, answers, sent(answered, MOST_ANSWERS));
+    exchange(&c, offsetof(struct start_call, answers) + sent(answered, MOST_ANSWERS), &r, sizeof r);
+    memcpy(clocks, r.reply.lent.clocks, sizeof r.reply.lent.clocks);
+    memcpy(file, r.start.file, sent(places, MOST_PLACES) * sizeof *file);
+    return r.start.started;
 }

@@ -1,7 +1,6 @@
 /* Runs the library's functions for proxy.c: calls from standard input, replies to standard output. It is compiled for x86-64,
  * as the library is, with no header but the compiler's own, so that no C library for x86-64 has to be installed. */
 #include "calls.h"
-#include "woolturret.h"
 
 extern long read(int file, void *to, size_t count);
 extern long write(int file, const void *from, size_t count);
@@ -15,6 +14,12 @@ static bool take(void *to, size_t count)
         had += (size_t)got;
     }
     return true;
+}
+
+/* A reply is shorter than what a pipe takes at once. */
+static bool give(const void *from, size_t count)
+{
+    return write(1, from, count) == (long)count;
 }
 
 static uint32_t answer(struct call *c)
@@ -41,14 +46,33 @@ static uint32_t answer(struct call *c)
     }
 }
 
+static bool reply_to(struct call *c)
+{
+    static struct reply r;
+    r.answer = answer(c);
+    r.lent = c->lent;
+    return give(&r, sizeof r);
+}
+
+/* Takes the rest of a start's call and replies to it. */
+static bool reply_to_start(struct start_call *c)
+{
+    static struct start_reply r;
+    struct start *s = &c->start;
+    if (!take(s, sizeof *s) || !take(c->answers, sent(s->answered, MOST_ANSWERS)))
+        return false;
+    s->started = woolturret_start(c->call.bytes, c->call.length, s->file, s->places, c->answers, s->answered, s->limit,
+                                  (uint8_t)s->cut, c->call.lent.clocks);
+    r.reply.lent = c->call.lent;
+    r.start = *s;
+    return give(&r, sizeof r);
+}
+
 int main(void)
 {
-    static struct call c;
-    static struct reply r;
-    while (take(&c, sizeof c)) {
-        r.answer = answer(&c);
-        r.lent = c.lent;
-        if (write(1, &r, sizeof r) != (long)sizeof r)
+    static struct start_call c;
+    while (take(&c.call, sizeof c.call)) {
+        if (!(c.call.function == START ? reply_to_start(&c) : reply_to(&c.call)))
             return 1;
     }
     return 0;
