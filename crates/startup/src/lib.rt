@@ -67,15 +67,16 @@ fn run(
     let sai = cfgr.sai;
     let i2s = cfgr.i2s;
     let mco = cfgr.mco;
-    let a = sections::hsi_part(begun(file, cut), answers, limit);
-    let b = sections::hse_part(a, answers, limit, hse);
-    let d = sections::pll_part(b, answers, limit, hse, pll, config);
-    let e = sections::lse_part(d, answers, limit, lse);
-    let f = sections::lsi_part(e, answers, limit, sources.lsi);
-    let g = sections::sai_part(f, sai);
-    let h = sections::choice_part(g, choice);
-    let i = sections::i2s_part(h, i2s);
-    sections::last_part(i, answers, limit, mco, config, sections::sw(hse, pll))
+    let m = begun(file, cut);
+    let m = sections::hsi_part(m, answers, limit);
+    let m = sections::hse_part(m, answers, limit, hse);
+    let m = sections::pll_part(m, answers, limit, hse, pll, config);
+    let m = sections::lse_part(m, answers, limit, lse);
+    let m = sections::lsi_part(m, answers, limit, sources.lsi);
+    let m = sections::sai_part(m, sai);
+    let m = sections::choice_part(m, choice);
+    let m = sections::i2s_part(m, i2s);
+    sections::last_part(m, answers, limit, mco, config, sections::sw(hse, pll))
 }
 
 // How a start ended, by its machine.

@@ -23,9 +23,9 @@ pub fn hsi_part(m: Machine, answers: &[u8], limit: u32) -> Machine
     requires { ⌜ Room 0 limit m ⌝ }
     ensures { λ r. ⌜ Ran (now (answers .entry)) limit m hsiOps 1 r ⌝ }
 {
-    let a = set(m, registers::HSION, 1);
-    let b = wait(a, answers, limit, 1);
-    set(b, registers::SW, 0)
+    let m = set(m, registers::HSION, 1);
+    let m = wait(m, answers, limit, 1);
+    set(m, registers::SW, 0)
 }
 
 // An oscillator's bypass bit and its ON bit, at their places; then its wait.
@@ -41,9 +41,9 @@ fn crystal(
     requires { ⌜ Room 5 limit m × (byp < places.PLACES) × (on < places.PLACES) ⌝ }
     ensures { λ r. ⌜ Ran (now (answers .entry)) limit m (crystalOps byp on number bypass) 1 r ⌝ }
 {
-    let a = set(m, byp, bypass);
-    let b = set(a, on, 1);
-    wait(b, answers, limit, number)
+    let m = set(m, byp, bypass);
+    let m = set(m, on, 1);
+    wait(m, answers, limit, number)
 }
 
 // HSE given: HSEBYP; HSEON; W.
@@ -79,13 +79,13 @@ fn pll_on(m: Machine, answers: &[u8], limit: u32, hse: HSEClock, pll: Pll, vos: 
     requires { ⌜ Room 2 limit m ⌝ }
     ensures { λ r. ⌜ Ran (now (answers .entry)) limit m (pllOn hse pll vos) 1 r ⌝ }
 {
-    let a = set(m, registers::PLLON, 0);
-    let file = a.file;
-    let b = store(a, registers::pllcfgr(file, hse, pll));
-    let d = set(b, registers::PWREN, 1);
-    let e = set(d, registers::VOS, vos);
-    let f = set(e, registers::PLLON, 1);
-    wait(f, answers, limit, 3)
+    let m = set(m, registers::PLLON, 0);
+    let file = m.file;
+    let m = store(m, registers::pllcfgr(file, hse, pll));
+    let m = set(m, registers::PWREN, 1);
+    let m = set(m, registers::VOS, vos);
+    let m = set(m, registers::PLLON, 1);
+    wait(m, answers, limit, 3)
 }
 
 // With over-drive: ODEN; W; ODSWEN; W.
@@ -94,10 +94,10 @@ fn over_drive(m: Machine, answers: &[u8], limit: u32, overdrive: bool) -> Machin
     ensures { λ r. ⌜ Ran (now (answers .entry)) limit m (overOps overdrive) 2 r ⌝ }
 {
     if overdrive {
-        let a = set(m, registers::ODEN, 1);
-        let b = wait(a, answers, limit, 4);
-        let d = set(b, registers::ODSWEN, 1);
-        wait(d, answers, limit, 5)
+        let m = set(m, registers::ODEN, 1);
+        let m = wait(m, answers, limit, 4);
+        let m = set(m, registers::ODSWEN, 1);
+        wait(m, answers, limit, 5)
     } else {
         m
     }
@@ -135,8 +135,8 @@ pub fn pll_part(
     ensures { λ r. ⌜ Ran (now (answers .entry)) limit m (pllOps hse pll config) 3 r ⌝ }
 {
     if is_stored(pll) {
-        let a = pll_on(m, answers, limit, hse, pll, config.vos_scale as u32);
-        over_drive(a, answers, limit, config.overdrive)
+        let m = pll_on(m, answers, limit, hse, pll, config.vos_scale as u32);
+        over_drive(m, answers, limit, config.overdrive)
     } else {
         m
     }
@@ -168,8 +168,8 @@ pub fn lsi_part(m: Machine, answers: &[u8], limit: u32, lsi: bool) -> Machine
     ensures { λ r. ⌜ Ran (now (answers .entry)) limit m (lsiOps lsi) 1 r ⌝ }
 {
     if lsi {
-        let a = set(m, registers::LSION, 1);
-        wait(a, answers, limit, 7)
+        let m = set(m, registers::LSION, 1);
+        wait(m, answers, limit, 7)
     } else {
         m
     }
@@ -181,8 +181,8 @@ pub fn sai_part(m: Machine, sai: Sai) -> Machine
 {
     if sai.use_pllsai {
         let file = m.file;
-        let a = store(m, registers::pllsaicfgr(file, sai));
-        set(a, registers::PLLSAION, 1)
+        let m = store(m, registers::pllsaicfgr(file, sai));
+        set(m, registers::PLLSAION, 1)
     } else {
         m
     }
@@ -205,8 +205,8 @@ pub fn i2s_part(m: Machine, i2s: I2s) -> Machine
 {
     if i2s.use_plli2s {
         let file = m.file;
-        let a = store(m, registers::plli2scfgr(file, i2s));
-        set(a, registers::PLLI2SON, 1)
+        let m = store(m, registers::plli2scfgr(file, i2s));
+        set(m, registers::PLLI2SON, 1)
     } else {
         m
     }
@@ -236,11 +236,11 @@ pub fn last_part(
     ensures { λ r. ⌜ Ran (now (answers .entry)) limit m (lastOps mco config sw) 1 r ⌝ }
 {
     let file = m.file;
-    let a = store(m, registers::mco(file, mco));
-    let file = a.file;
-    let b = store(a, registers::acr(file, config));
-    let file = b.file;
-    let d = store(b, registers::prescalers(file, config));
-    let e = set(d, registers::SW, sw);
-    wait(e, answers, limit, 8)
+    let m = store(m, registers::mco(file, mco));
+    let file = m.file;
+    let m = store(m, registers::acr(file, config));
+    let file = m.file;
+    let m = store(m, registers::prescalers(file, config));
+    let m = set(m, registers::SW, sw);
+    wait(m, answers, limit, 8)
 }
