@@ -78,7 +78,8 @@ uint32_t woolturret_configure(const uint8_t *bytes, size_t length, uint32_t conf
 /* The clocks that the configuration of a request record gives as it stands: the Rust's calculate_clocks. Nothing is searched for.
  * Answers 0 with the clocks, or 1 to 6, 8 or 14 with clocks as it was. The numbers of clocks:
  *   SYSCLK, HCLK, PCLK1, PCLK2, timer clock of bus 1, timer clock of bus 2 (all in hertz);
- *   field codes of HPRE, PPRE1, PPRE2;   wait states, voltage scale (1 to 3), over-drive (0, 1), 48 MHz clock valid (0, 1);
+ *   field codes of HPRE (0 for 1, 8 to 15 for 2, 4, 8, 16, 64, 128, 256, 512), of PPRE1 and PPRE2 (0 for 1, 4 to 7 for 2, 4, 8, 16);
+ *   wait states, voltage scale (1 to 3), over-drive (0, 1), 48 MHz clock valid (0, 1);
  *   HSE as given, LSE (32768), LSI (32000), each 0 where absent. */
 uint32_t woolturret_derive(const uint8_t *bytes, size_t length, uint32_t clocks[16]);
 
@@ -101,9 +102,10 @@ struct woolturret_started {
     uint32_t polls;   /* polls made; 0 with any refusal but 12 */
 };
 
-/* A start: the Rust's freeze on the configuration that a request record holds, over a lent register file. It plans for itself.
+/* A start: the Rust's freeze on the configuration that a request record holds, over a register file that is lent: a model, which
+ * touches no register of a board. It plans for itself.
  *
- * The file is places numbers, which must be 35 (else 14), each a field of a register:
+ * file points to as many numbers as places says, which must be 35 (else 14), each a field of a register:
  *    0 HSION, 1 HSEBYP, 2 HSEON, 3 PLLON, 4 PLLSAION, 5 PLLI2SON;
  *    6 SW (0 HSI, 1 HSE, 2 PLL), 7 MCO1, 8 MCO1PRE, 9 MCO2, 10 MCO2PRE, 11 PPRE1, 12 PPRE2, 13 HPRE;
  *   14 PLLM, 15 PLLN, 16 PLLP, 17 PLLQ, 18 PLLSRC (1 with HSE);   19 PWREN;   20 VOS (the scale, 1 to 3), 21 ODEN, 22 ODSWEN;
@@ -115,24 +117,27 @@ struct woolturret_started {
  * The stores, divided by semicolons (a flag is stored as 1 unless said), and the waits, by number:
  *   HSION; wait 1 HSI; SW = HSI;
  *   with HSE: HSEBYP (1 for bypass); HSEON; wait 2 HSE;
- *   with the PLL used or a 48 MHz choice: PLLON = 0; PLLM, PLLN, PLLP, PLLQ, PLLSRC; PWREN; VOS; PLLON; wait 3 PLL;
+ *   with use_pll as planned or a 48 MHz choice: PLLON = 0; PLLM, PLLN, PLLP, PLLQ, PLLSRC; PWREN; VOS; PLLON; wait 3 PLL;
  *     and with over-drive: ODEN; wait 4 ODEN; ODSWEN; wait 5 ODSWEN;
  *   with LSE: LSEBYP (1 for bypass); LSEON; wait 6 LSE;   with LSI: LSION; wait 7 LSI;
- *   with PLLSAI: PLLSAIN, PLLSAIP, PLLSAIQ; PLLSAION;   with a 48 MHz choice: CK48MSEL;
- *   with PLLI2S: PLLI2SN, PLLI2SR, PLLI2SQ; PLLI2SON;
- *   MCO1, MCO1PRE, MCO2, MCO2PRE; LATENCY with the other bits of ACR 0; PPRE1, PPRE2, HPRE; SW (the plan's source); wait 8 SW.
+ *   with use_pllsai: PLLSAIN, PLLSAIP, PLLSAIQ; PLLSAION;   with a 48 MHz choice: CK48MSEL;
+ *   with use_plli2s: PLLI2SN, PLLI2SR, PLLI2SQ; PLLI2SON;
+ *   MCO1, MCO1PRE, MCO2, MCO2PRE; LATENCY with the other bits of ACR 0; PPRE1, PPRE2, HPRE;
+ *   SW (2 with use_pll as planned, else 1 with HSE, else 0); wait 8 SW.
+ * That is 6 to 23 stores and 2 to 8 waits.
  *
- * A wait polls until it is answered, at most limit times (1 to 65,535, else 13). Each poll takes the next of the answered bytes
- * of answers, one row for all waits: 1 is ready, any other byte is not. A poll past the end takes nothing, is not ready and
- * counts. So a start polls at most eight times the limit.
- * The start is cut right after so many stores as cut says: 0 cuts it before the first, the number of its stores after the last
- * and before its wait, a number above that cuts nothing. An unanswered wait before the cut comes first.
+ * A wait polls until it is answered, at most limit times (1 to 65,535, else 13). answers points to as many bytes as answered says,
+ * one row for all waits (it is not looked at where that is 0): each poll takes the next, 1 is ready, any other byte is not. A poll
+ * past the end takes nothing, is not ready and counts. So a start polls at most eight times the limit.
+ * The start is cut right after as many stores as cut says: 0 cuts it before the first, the number of its stores after the last
+ * and before its wait, a number above that, so any from 24 on, cuts nothing. C makes a larger number than 255 a smaller one before
+ * the call. An unanswered wait before the cut comes first.
  *
- * Answers refusal 0: file as its stores made it, clocks those of the plan, as woolturret_plan has them, also where it was cut; or
- * 12: file as the stores before that wait made it, clocks as they were, wait its number; or 1 to 7, 9 to 11, 13 or 14: file and
- * clocks as they were, cut, wait and polls 0. Nothing is stored before 1 to 11, 13 and 14 are checked.
- * To go on after a cut or an unanswered wait call it again, with the file as it was left: all stores are made anew, and with
- * every wait answered the file ends as that of a start that was never cut. */
+ * Answers refusal 0: file as its stores made it, clocks those of the plan, as woolturret_plan has them, also where it was cut (they hold
+ * once it is done, so look at cut); or 12: file as the stores before that wait made it, clocks as they were, wait its number; or 1 to 7, 9 to 11, 13 or 14: file and
+ * clocks as they were, cut, wait and polls 0. All of these are checked before anything is stored.
+ * To go on after a cut or an unanswered wait call it again, with the same record and the file as it was left: all stores are made
+ * anew, and once every wait is answered the file ends as that of a start that was never cut, however many tries there were. */
 struct woolturret_started woolturret_start(const uint8_t *bytes, size_t length,
                                            uint32_t *file, size_t places,
                                            const uint8_t *answers, size_t answered,

@@ -20,7 +20,7 @@ use Rattle.startup.specs.Places.{PLACES}
 use Rattle.startup.specs.Files.{applies}
 use Rattle.startup.specs.Order.{Op, wait, one, pllStored, opsOf, storesOf, waits, waitsBy}
 use Rattle.startup.specs.Start.{Ending, at-end, at-cut, at-wait, walk, outcomeOf, startedOf, startOf}
-use Rattle.startup.specs.Cuts.{Leaves, whole, first, before, Comes, away, over}
+use Rattle.startup.specs.Cuts.{Leaves, whole, first, before, Comes, away, over, Try, tried}
 use Rattle.startup.specs.Fields.{fieldsOf, names, Holds}
 use Rattle.startup.specs.Safe.{Settled, Safe, Switched}
 use Rattle.startup.specs.Back.{Reads, Powered}
@@ -222,6 +222,13 @@ module _ (c d : CFGR) (k : ℕ) (x : Clocks) (y : InternalRCCConfig) (p : planOf
       let s = stores-few d y in
       same-end f lim xs cut lim' (replicate (waits (opsOf d y)) 1 ++ ys) cut' lim' (replicate (waits (opsOf d y)) 1 ++ ys) cut' x x y y
       (answered f lim' ys cut' b (omega arith) .0) (answered (startOf c f lim xs cut .file) lim' ys cut' b (omega arith) .0)
+
+  -- so over what any number of tries left, one after the other, cut or unanswered or done
+  pub restarted-again : (f : List ℕ) (l : List Try) (lim : ℕ) (ys : List ℕ) (cut : ℕ) → Between 1 65535 lim → 23 < cut
+      → startOf c (tried c f l) lim (replicate (waits (opsOf d y)) 1 ++ ys) cut .file ≡ startOf c f lim (replicate (waits (opsOf d y)) 1 ++ ys) cut .file
+  restarted-again f [] lim ys cut b h = refl
+  restarted-again f (t ∷ l) lim ys cut b h =
+      restarted-again (startOf c f (t .limit) (t .answers) (t .cut) .file) l lim ys cut b h ∙ restarted f (t .limit) (t .answers) (t .cut) lim ys cut b h
 
 -- ---- for every configuration
 -- polls: at most eight times the limit

@@ -6,11 +6,12 @@ use mathlib.Core.Bool.{true, false}
 use mathlib.Core.List.{List, [], _∷_, _++_}
 use lib.ListN.{length, take}
 use Rattle.kinds.specs.Table.{Between, Outside}
+use Rattle.kinds.specs.declared.CFGR.{CFGR}
 use Rattle.clocks.specs.declared.Clocks.{Clocks}
 use Rattle.clocks.specs.declared.InternalRCCConfig.{InternalRCCConfig}
 use Rattle.startup.specs.Files.{Store, applies}
 use Rattle.startup.specs.Order.{Op, put, wait, storesOf, waits}
-use Rattle.startup.specs.Start.{Ending, at-end, at-cut, at-wait, polledOf, outcomeOf, refusedOf}
+use Rattle.startup.specs.Start.{Ending, at-end, at-cut, at-wait, polledOf, outcomeOf, refusedOf, startOf}
 use Rattle.startup.specs.declared.Started.{Started}
 
 pub data Leaves (os : List Op) (cut : ℕ) (f : List ℕ) : Ending → List ℕ → Type 0 where
@@ -43,3 +44,13 @@ pub data Comes (x : Clocks) (y : InternalRCCConfig) (os : List Op) (f : List ℕ
   away : Outside 1 65535 lim → Comes x y os f lim cut (refusedOf 13 f)
   over : {e : Ending} {g : List ℕ} {n : ℕ} → Between 1 65535 lim → Leaves os cut f e g → n ≤ waits os * lim
       → Comes x y os f lim cut (record { outcome = outcomeOf x y e; polls = n; file = g })
+
+-- a try at a start: its poll limit, answers and cut; and the file that tries, one after the other, leave
+pub record Try : Type 0 where
+  pub limit : ℕ
+  pub answers : List ℕ
+  pub cut : ℕ
+
+abbrev pub tried : CFGR → List ℕ → List Try → List ℕ
+tried c f [] = f
+tried c f (t ∷ l) = tried c (startOf c f (t .limit) (t .answers) (t .cut) .file) l
