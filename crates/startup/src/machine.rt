@@ -24,7 +24,7 @@ struct Poll {
 }
 
 // Before the first store.
-pub fn begun(file: [u32; PLACES], cut: u8) -> Machine
+pub(crate) fn begun(file: [u32; PLACES], cut: u8) -> Machine
     ensures { λ r. ⌜ r ≡ beginOf file cut ⌝ }
 {
     Machine {
@@ -46,7 +46,7 @@ fn goes_on(m: Machine) -> bool
 }
 
 // One store: the file becomes the one given.
-pub fn store(mut m: Machine, file: [u32; PLACES]) -> Machine
+pub(crate) fn store(mut m: Machine, file: [u32; PLACES]) -> Machine
     ensures { λ r. ⌜ Stored m file r ⌝ }
 {
     if goes_on(m) {
@@ -60,7 +60,7 @@ pub fn store(mut m: Machine, file: [u32; PLACES]) -> Machine
 }
 
 // A store of one place.
-pub fn set(m: Machine, place: usize, value: u32) -> Machine
+pub(crate) fn set(m: Machine, place: usize, value: u32) -> Machine
     requires { ⌜ place < places.PLACES ⌝ }
     ensures { λ r. ⌜ Put m ((place, value) ∷ []) r ⌝ }
 {
@@ -113,7 +113,7 @@ fn waited(mut m: Machine, k: u8, p: Poll) -> Machine
 }
 
 // The wait with number k.
-pub fn wait(m: Machine, answers: &[u8], limit: u32, k: u8) -> Machine
+pub(crate) fn wait(m: Machine, answers: &[u8], limit: u32, k: u8) -> Machine
     requires { ⌜ Room 7 limit m ⌝ }
     ensures { λ r. ⌜ Waited (now (answers .entry)) limit m k r ⌝ }
 {

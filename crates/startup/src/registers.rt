@@ -90,7 +90,7 @@ pub const LATENCY: usize = 33;
 pub const OTHER: usize = 34;
 
 // A store of one place.
-pub fn put(mut file: [u32; PLACES], place: usize, value: u32) -> [u32; PLACES]
+pub(crate) fn put(mut file: [u32; PLACES], place: usize, value: u32) -> [u32; PLACES]
     requires { ⌜ place < places.PLACES ⌝ }
     ensures { λ r. ⌜ Wrote file ((place, value) ∷ []) r ⌝ }
 {
@@ -99,7 +99,7 @@ pub fn put(mut file: [u32; PLACES], place: usize, value: u32) -> [u32; PLACES]
 }
 
 // 1 with HSE: PLLSRC, and the code of SW.
-pub fn pllsrc(hse: HSEClock) -> u32
+pub(crate) fn pllsrc(hse: HSEClock) -> u32
     ensures { λ r. ⌜ r ≡ srcOf hse ⌝ }
 {
     match hse {
@@ -110,7 +110,7 @@ pub fn pllsrc(hse: HSEClock) -> u32
 }
 
 // The five PLL fields.
-pub fn pllcfgr(mut file: [u32; PLACES], hse: HSEClock, pll: Pll) -> [u32; PLACES]
+pub(crate) fn pllcfgr(mut file: [u32; PLACES], hse: HSEClock, pll: Pll) -> [u32; PLACES]
     ensures { λ r. ⌜ Wrote file (pllcfgr hse pll) r ⌝ }
 {
     let m = pll.m;
@@ -126,7 +126,7 @@ pub fn pllcfgr(mut file: [u32; PLACES], hse: HSEClock, pll: Pll) -> [u32; PLACES
 }
 
 // PLLSAI's three fields.
-pub fn pllsaicfgr(mut file: [u32; PLACES], sai: Sai) -> [u32; PLACES]
+pub(crate) fn pllsaicfgr(mut file: [u32; PLACES], sai: Sai) -> [u32; PLACES]
     ensures { λ r. ⌜ Wrote file (pllsaicfgr sai) r ⌝ }
 {
     let n = sai.n;
@@ -139,7 +139,7 @@ pub fn pllsaicfgr(mut file: [u32; PLACES], sai: Sai) -> [u32; PLACES]
 }
 
 // PLLI2S's three fields.
-pub fn plli2scfgr(mut file: [u32; PLACES], i2s: I2s) -> [u32; PLACES]
+pub(crate) fn plli2scfgr(mut file: [u32; PLACES], i2s: I2s) -> [u32; PLACES]
     ensures { λ r. ⌜ Wrote file (plli2scfgr i2s) r ⌝ }
 {
     let n = i2s.n;
@@ -152,7 +152,7 @@ pub fn plli2scfgr(mut file: [u32; PLACES], i2s: I2s) -> [u32; PLACES]
 }
 
 // The four MCO fields.
-pub fn mco(mut file: [u32; PLACES], mco: Mco) -> [u32; PLACES]
+pub(crate) fn mco(mut file: [u32; PLACES], mco: Mco) -> [u32; PLACES]
     ensures { λ r. ⌜ Wrote file (mcoFields mco) r ⌝ }
 {
     let mco1 = mco.mco1;
@@ -167,7 +167,7 @@ pub fn mco(mut file: [u32; PLACES], mco: Mco) -> [u32; PLACES]
 }
 
 // LATENCY, with the other bits of ACR to 0: the Rust writes the whole register.
-pub fn acr(mut file: [u32; PLACES], config: InternalRCCConfig) -> [u32; PLACES]
+pub(crate) fn acr(mut file: [u32; PLACES], config: InternalRCCConfig) -> [u32; PLACES]
     ensures { λ r. ⌜ Wrote file (acr config) r ⌝ }
 {
     file[LATENCY] = config.flash_waitstates as u32;
@@ -176,7 +176,7 @@ pub fn acr(mut file: [u32; PLACES], config: InternalRCCConfig) -> [u32; PLACES]
 }
 
 // PPRE1, PPRE2, HPRE.
-pub fn prescalers(mut file: [u32; PLACES], config: InternalRCCConfig) -> [u32; PLACES]
+pub(crate) fn prescalers(mut file: [u32; PLACES], config: InternalRCCConfig) -> [u32; PLACES]
     ensures { λ r. ⌜ Wrote file (prescalers config) r ⌝ }
 {
     file[PPRE1] = config.ppre1 as u32;

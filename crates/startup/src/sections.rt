@@ -19,7 +19,7 @@ ghost use Rattle.startup.specs.Machine.{Room, Ran, Puts};
 ghost use Rattle.startup.specs.Order.{hsiOps, crystalOps, hseOps, pllOn, overOps, chosen, pllStored, pllOps, lseOps, lsiOps, saiOps, choiceOps, i2sOps, swOf, lastOps};
 
 // HSION; W; SW = HSI.
-pub fn hsi_part(m: Machine, answers: &[u8], limit: u32) -> Machine
+pub(crate) fn hsi_part(m: Machine, answers: &[u8], limit: u32) -> Machine
     requires { ⌜ Room 0 limit m ⌝ }
     ensures { λ r. ⌜ Ran (now (answers .entry)) limit m hsiOps 1 r ⌝ }
 {
@@ -47,7 +47,7 @@ fn crystal(
 }
 
 // HSE given: HSEBYP; HSEON; W.
-pub fn hse_part(m: Machine, answers: &[u8], limit: u32, hse: HSEClock) -> Machine
+pub(crate) fn hse_part(m: Machine, answers: &[u8], limit: u32, hse: HSEClock) -> Machine
     requires { ⌜ Room 1 limit m ⌝ }
     ensures { λ r. ⌜ Ran (now (answers .entry)) limit m (hseOps hse) 1 r ⌝ }
 {
@@ -123,7 +123,7 @@ fn is_stored(pll: Pll) -> bool
 }
 
 // The PLL, voltage and over-drive.
-pub fn pll_part(
+pub(crate) fn pll_part(
     m: Machine,
     answers: &[u8],
     limit: u32,
@@ -143,7 +143,7 @@ pub fn pll_part(
 }
 
 // LSE: LSEBYP; LSEON; W.
-pub fn lse_part(m: Machine, answers: &[u8], limit: u32, lse: LSEClock) -> Machine
+pub(crate) fn lse_part(m: Machine, answers: &[u8], limit: u32, lse: LSEClock) -> Machine
     requires { ⌜ Room 5 limit m ⌝ }
     ensures { λ r. ⌜ Ran (now (answers .entry)) limit m (lseOps lse) 1 r ⌝ }
 {
@@ -163,7 +163,7 @@ pub fn lse_part(m: Machine, answers: &[u8], limit: u32, lse: LSEClock) -> Machin
 }
 
 // LSI: LSION; W.
-pub fn lsi_part(m: Machine, answers: &[u8], limit: u32, lsi: bool) -> Machine
+pub(crate) fn lsi_part(m: Machine, answers: &[u8], limit: u32, lsi: bool) -> Machine
     requires { ⌜ Room 6 limit m ⌝ }
     ensures { λ r. ⌜ Ran (now (answers .entry)) limit m (lsiOps lsi) 1 r ⌝ }
 {
@@ -176,7 +176,7 @@ pub fn lsi_part(m: Machine, answers: &[u8], limit: u32, lsi: bool) -> Machine
 }
 
 // PLLSAI: its three fields; PLLSAION. Nothing waits for it.
-pub fn sai_part(m: Machine, sai: Sai) -> Machine
+pub(crate) fn sai_part(m: Machine, sai: Sai) -> Machine
     ensures { λ r. ⌜ Puts m (saiOps sai) r ⌝ }
 {
     if sai.use_pllsai {
@@ -189,7 +189,7 @@ pub fn sai_part(m: Machine, sai: Sai) -> Machine
 }
 
 // 48 MHz choice: CK48MSEL, 1 for PLLSAI.
-pub fn choice_part(m: Machine, choice: Choice48) -> Machine
+pub(crate) fn choice_part(m: Machine, choice: Choice48) -> Machine
     ensures { λ r. ⌜ Puts m (choiceOps choice) r ⌝ }
 {
     match choice {
@@ -200,7 +200,7 @@ pub fn choice_part(m: Machine, choice: Choice48) -> Machine
 }
 
 // PLLI2S: its three fields; PLLI2SON. Nothing waits for it.
-pub fn i2s_part(m: Machine, i2s: I2s) -> Machine
+pub(crate) fn i2s_part(m: Machine, i2s: I2s) -> Machine
     ensures { λ r. ⌜ Puts m (i2sOps i2s) r ⌝ }
 {
     if i2s.use_plli2s {
@@ -213,7 +213,7 @@ pub fn i2s_part(m: Machine, i2s: I2s) -> Machine
 }
 
 // SW: PLL if use_pll, else HSE if given, else HSI.
-pub fn sw(hse: HSEClock, pll: Pll) -> u32
+pub(crate) fn sw(hse: HSEClock, pll: Pll) -> u32
     ensures { λ r. ⌜ r ≡ swOf hse pll ⌝ }
 {
     if pll.use_pll {
@@ -224,7 +224,7 @@ pub fn sw(hse: HSEClock, pll: Pll) -> u32
 }
 
 // The four MCO fields; LATENCY; PPRE1, PPRE2, HPRE; SW; W.
-pub fn last_part(
+pub(crate) fn last_part(
     m: Machine,
     answers: &[u8],
     limit: u32,
