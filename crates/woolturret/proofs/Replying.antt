@@ -17,8 +17,8 @@ use Rattle.pll.specs.declared.Window.{Window}
 use Rattle.pll.specs.declared.Found.{Found}
 use Rattle.pll.specs.declared.Outcome.{Outcome}
 use Rattle.pll.specs.declared.Outcome.the-variants.{Refused as OutputRefused, At as OutputAt}
-use Rattle.woolturret.specs.Answers.{numbersOf as foundNumbers}
-use Rattle.woolturret.specs.Numbers.{numbersOf}
+use Rattle.numbers.specs.Answers.{numbersOf as foundNumbers}
+use Rattle.numbers.specs.Numbers.{numbersOf}
 use Rattle.woolturret.specs.Replies.{Replied, checkReply, callReply, setReply, searchReply, Told}
 use Rattle.calls.specs.declared.named.Named.{Named}
 use Rattle.calls.specs.declared.named.Named.the-variants.{Unknown, Call}

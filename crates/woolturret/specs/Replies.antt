@@ -13,8 +13,8 @@ use Rattle.pll.specs.Numbers.{outcomeNumberOf}
 use Rattle.pll.specs.declared.Outcome.{Outcome}
 use Rattle.pll.specs.declared.Outcome.the-variants.{Refused as OutputRefused, At as OutputAt}
 use Rattle.pll.specs.declared.Found.{Found}
-use Rattle.woolturret.specs.Answers.{numbersOf as foundNumbers}
-use Rattle.woolturret.specs.Numbers.{numbersOf}
+use Rattle.numbers.specs.Answers.{numbersOf as foundNumbers}
+use Rattle.numbers.specs.Numbers.{numbersOf}
 use Rattle.calls.specs.declared.named.Named.{Named}
 use Rattle.calls.specs.declared.named.Named.the-variants.{Unknown, Call}
 

@@ -1,7 +1,4 @@
 // Functions for C: record bytes and numbers in, numbers out. include/woolturret.h declares them.
-mod answers;
-mod numbers;
-mod plans;
 mod starts;
 
 use answer::put_answer;
@@ -12,6 +9,8 @@ use kinds::CFGR;
 use kinds::Divider;
 use kinds::Factor;
 use kinds::Hertz;
+use numbers::answers;
+use numbers::plans;
 use plan::plan;
 use pll::Outcome;
 use record::Reading;
@@ -22,9 +21,10 @@ ghost use Rattle.record.specs.Reading.{readOf};
 ghost use Rattle.answer.specs.Answer.{answerLine};
 ghost use Rattle.pll.specs.Fixed.{outputOf};
 ghost use Rattle.pll.specs.Walk.{searchOf};
-ghost use Rattle.woolturret.specs.Answers.{windowOf};
+ghost use Rattle.numbers.specs.Answers.{windowOf};
 ghost use Rattle.woolturret.specs.Replies.{Replied, checkReply, setReply, callReply, searchReply, Told};
-ghost use Rattle.woolturret.specs.Plans.{Configures, configureReply, Derives, deriveReply, Plans, planReply};
+ghost use Rattle.numbers.specs.Plans.{Configures, Derives, Plans};
+ghost use Rattle.woolturret.specs.Plans.{configureReply, deriveReply, planReply};
 ghost use Rattle.woolturret.specs.Lines.{Lines};
 ghost use Rattle.woolturret.specs.Starts.{Starts, startReply};
 ghost use Rattle.calls.specs.Named.{namedOf};

@@ -1,7 +1,7 @@
 -- `answers::window` meets its contract: each branch by its test.
 use borrow.Author.Needs.{needs}
-use Rattle.woolturret.proofs.answers.window.Statement.{statement}
-use Rattle.woolturret.proofs.answers.window.Tie as tie
+use Rattle.numbers.proofs.answers.window.Statement.{statement}
+use Rattle.numbers.proofs.answers.window.Tie as tie
 
 returns : tie.Need-returns
 returns c = cc

@@ -1,7 +1,7 @@
 -- `answers::numbers_of` meets its contract: case by case, number by number.
 use borrow.Author.Needs.{needs}
-use Rattle.woolturret.proofs.answers.numbers_of.Statement.{statement}
-use Rattle.woolturret.proofs.answers.numbers_of.Tie as tie
+use Rattle.numbers.proofs.answers.numbers_of.Statement.{statement}
+use Rattle.numbers.proofs.answers.numbers_of.Tie as tie
 
 enum-known-found : tie.Need-enum-known-found
 enum-known-found c = search needs

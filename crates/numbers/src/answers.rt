@@ -5,10 +5,10 @@ use pll::Sought;
 use pll::Window;
 ghost use mathlib.Core.Path.{_≡_};
 ghost use Rattle.pll.specs.Numbers.{numberOf};
-ghost use Rattle.woolturret.specs.Answers as spec;
+ghost use Rattle.numbers.specs.Answers as spec;
 
 // A window is looked at only where its flag is set.
-pub(crate) fn window(present: bool, low: u32, high: u32) -> Window
+pub fn window(present: bool, low: u32, high: u32) -> Window
     ensures { λ r. ⌜ r ≡ spec.windowOf present low high ⌝ }
 {
     if present {
@@ -27,7 +27,7 @@ fn divider(s: Sought) -> u32
     }
 }
 
-pub(crate) fn number_of(found: Found) -> u32
+pub fn number_of(found: Found) -> u32
     ensures { λ r. ⌜ r ≡ numberOf found ⌝ }
 {
     match found {
@@ -44,7 +44,7 @@ pub(crate) fn number_of(found: Found) -> u32
 }
 
 // Passes, M, N, P, Q: zeros where there is none.
-pub(crate) fn numbers_of(found: Found) -> [u32; 5]
+pub fn numbers_of(found: Found) -> [u32; 5]
     ensures { λ r. ⌜ r ≡ spec.numbersOf found ⌝ }
 {
     match found {

@@ -1,10 +1,10 @@
 -- `plans::clock_numbers` meets its contract: number by number.
 use mathlib.Core.Path.{refl}
-use Rattle.woolturret.proofs.Lists.{both}
-use Rattle.woolturret.specs.Plans.{clockNumbers}
+use Rattle.numbers.proofs.Lists.{both}
+use Rattle.numbers.specs.Plans.{clockNumbers}
 use borrow.Author.Needs.{needs}
-use Rattle.woolturret.proofs.plans.clock_numbers.Statement.{statement}
-use Rattle.woolturret.proofs.plans.clock_numbers.Tie as tie
+use Rattle.numbers.proofs.plans.clock_numbers.Statement.{statement}
+use Rattle.numbers.proofs.plans.clock_numbers.Tie as tie
 
 cast-t6 : tie.Need-cast-t6
 cast-t6 c = search needs

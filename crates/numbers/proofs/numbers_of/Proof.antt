@@ -1,10 +1,10 @@
--- `numbers::numbers_of` meets its contract: number by number.
+-- `numbers_of` meets its contract: number by number.
 use mathlib.Core.Path.{refl}
-use Rattle.woolturret.proofs.Lists.{both}
-use Rattle.woolturret.specs.Numbers.{numbersOf}
+use Rattle.numbers.proofs.Lists.{both}
+use Rattle.numbers.specs.Numbers.{numbersOf}
 use borrow.Author.Needs.{needs}
-use Rattle.woolturret.proofs.numbers.numbers_of.Statement.{statement}
-use Rattle.woolturret.proofs.numbers.numbers_of.Tie as tie
+use Rattle.numbers.proofs.numbers_of.Statement.{statement}
+use Rattle.numbers.proofs.numbers_of.Tie as tie
 
 hse-kind-requires : tie.Need-hse-kind-requires
 hse-kind-requires c κs = search needs

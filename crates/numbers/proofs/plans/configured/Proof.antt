@@ -1,8 +1,8 @@
 -- `plans::configured` meets its contract: from the answer and its numbers.
-use Rattle.woolturret.proofs.Planning.{configured-ready}
+use Rattle.numbers.proofs.Planning.{configured-ready}
 use borrow.Author.Needs.{needs}
-use Rattle.woolturret.proofs.plans.configured.Statement.{statement}
-use Rattle.woolturret.proofs.plans.configured.Tie as tie
+use Rattle.numbers.proofs.plans.configured.Statement.{statement}
+use Rattle.numbers.proofs.plans.configured.Tie as tie
 
 enum-known-answer : tie.Need-enum-known-answer
 enum-known-answer c = search needs

@@ -1,4 +1,7 @@
-// A configuration as 30 numbers, group by group.
+// Answers as numbers in lent buffers, what the functions for C hand back; here a configuration as 30 numbers, group by group.
+pub mod answers;
+pub mod plans;
+
 use kinds::CFGR;
 use kinds::Choice48;
 use kinds::HSEClock;
@@ -9,7 +12,7 @@ use kinds::codes::mco2_code;
 use kinds::codes::mcopre_code;
 use kinds::codes::pllp_code;
 ghost use mathlib.Core.Path.{_≡_};
-ghost use Rattle.woolturret.specs.Numbers as spec;
+ghost use Rattle.numbers.specs.Numbers as spec;
 
 pub(crate) fn flag(on: bool) -> u32
     ensures { λ r. ⌜ r ≡ spec.flagOf on ⌝ }
@@ -75,7 +78,7 @@ fn choice(k: Choice48) -> u32
     }
 }
 
-pub(crate) fn numbers_of(c: CFGR) -> [u32; 30]
+pub fn numbers_of(c: CFGR) -> [u32; 30]
     ensures { λ r. ⌜ r ≡ spec.numbersOf c ⌝ }
 {
     let s = c.sources;

@@ -1,17 +1,17 @@
 // Answers of pll_configure, calculate_clocks and plan as numbers.
-use super::numbers::asked_hertz;
-use super::numbers::flag;
-use super::numbers::numbers_of;
+use super::asked_hertz;
+use super::flag;
+use super::numbers_of;
 use clocks::Clocks;
 use clocks::Derived;
 use clocks::InternalRCCConfig;
 use configure::Configured;
 use plan::Planned;
 ghost use mathlib.Core.Path.{_≡_};
-ghost use Rattle.woolturret.specs.Plans as spec;
+ghost use Rattle.numbers.specs.Plans as spec;
 
 // SYSCLK, HCLK, PCLK1, PCLK2, both timers; HPRE, PPRE1, PPRE2, wait states, scale, over-drive; 48 MHz valid, HSE, LSE, LSI.
-pub(crate) fn clock_numbers(clocks: Clocks, config: InternalRCCConfig) -> [u32; 16]
+pub fn clock_numbers(clocks: Clocks, config: InternalRCCConfig) -> [u32; 16]
     ensures { λ r. ⌜ r ≡ spec.clockNumbers clocks config ⌝ }
 {
     let hse = clocks.hse;
@@ -37,7 +37,7 @@ pub(crate) fn clock_numbers(clocks: Clocks, config: InternalRCCConfig) -> [u32; 
     ]
 }
 
-pub(crate) fn configured(answer: Configured, config: &mut [u32; 30], passes: &mut u32) -> u32
+pub fn configured(answer: Configured, config: &mut [u32; 30], passes: &mut u32) -> u32
     ensures { λ r. ⌜ spec.Configures (spec.configuredReply answer (now (config .entry))) r (now (config .exit)) (now (passes .exit)) ⌝ }
 {
     match answer {
@@ -53,7 +53,7 @@ pub(crate) fn configured(answer: Configured, config: &mut [u32; 30], passes: &mu
     }
 }
 
-pub(crate) fn derived(answer: Derived, clocks: &mut [u32; 16]) -> u32
+pub fn derived(answer: Derived, clocks: &mut [u32; 16]) -> u32
     ensures { λ r. ⌜ spec.Derives (spec.derivedReply answer (now (clocks .entry))) r (now (clocks .exit)) ⌝ }
 {
     match answer {
@@ -68,7 +68,7 @@ pub(crate) fn derived(answer: Derived, clocks: &mut [u32; 16]) -> u32
     }
 }
 
-pub(crate) fn planned(
+pub fn planned(
     answer: Planned,
     config: &mut [u32; 30],
     clocks: &mut [u32; 16],
