@@ -61,7 +61,8 @@ module _ {left : ℕ} {input out : List ℕ} {p : Piece} (s : Stepped left input
   pub stepped-less : 0 < left → p .left < left
   stepped-less h = let l = rest-less left (answeredOf (p .taken)) (p .written) h answered in omega (arith, s .rest)
 
-  -- a piece is the last exactly if it reached the last record that may be read, less was answered than asked for, or its text could not be written
+  -- a piece is the last exactly if it reached the last record that may be read, less was answered than asked for, or its text could
+  -- not be written
   pub last-exactly : 0 < left → (p .left ≡ 0) ↔ ((left ≤ 1024) ⊎ ((answeredOf (p .taken) < askedOf left) ⊎ (p .written ≡ false)))
   last-exactly h = (λ e. forth (p .written) refl (sym (s .rest) ∙ e), λ e. s .rest ∙ back (p .written) refl e)
     where

@@ -18,7 +18,8 @@ askedOf left = min 65536 (64 * left)
 abbrev pub answeredOf : Taken → ℕ
 answeredOf t = cond (t .failed) (t .got / 64 * 64) (t .got)
 
--- after a piece of so many bytes where `want` were asked for: no record more if its text could not be written or it was short, else its own fewer
+-- after a piece of so many bytes where `want` were asked for: no record more if its text could not be written or it was short, else
+-- its own fewer
 abbrev pub restOf : ℕ → ℕ → ℕ → Bool → ℕ
 restOf left want got written = cond written (cond (ltb got want) 0 (left - got / 64)) 0
 

@@ -1,4 +1,4 @@
--- A start is done, and is cut, exactly if its limit is good, its plan accepted and every wait up to there answered: by the list, both ways.
+-- A start is done, or cut, exactly if its limit is good, its plan accepted and each wait up to there answered: by the list, both ways.
 use Prim.Native.Nat.{ℕ, zero, suc, _<_}
 use native.Mathlib.Omega.{arith}
 use mathlib.Core.Path.{_≡_, refl, _∙_, ap, subst}
@@ -122,7 +122,8 @@ module _ (c : CFGR) (f : List ℕ) (lim : ℕ) (xs : List ℕ) (cut : ℕ) (x : 
       back : Runs P → startOf c f lim xs cut .outcome ≡ outcomeOf x y e
       back (b, (d, k, p, w)) = ap (λ (r : Started). r .outcome) (is-walk c d k x y p f lim xs cut b) ∙ ap (outcomeOf x y) (is (opsOf d y) .1 w)
 
-  -- done, with these clocks and field codes, exactly if the limit is good, the plan accepted with them, the cut above its stores and every wait answered
+  -- done, with these clocks and field codes, exactly if the limit is good, the plan accepted with them, the cut above its stores and
+  -- every wait answered
   pub done-exactly : (startOf c f lim xs cut .outcome ≡ Done x y)
       ↔ (Between 1 65535 lim × ((d : CFGR) × (k : ℕ) × (planOf c ≡ Ready d k x y) × ((length (storesOf (opsOf d y)) < cut) × ((ys : List ℕ) × Answers lim (opsOf d y) xs ys))))
   done-exactly = by-ending (Whole lim cut xs) at-end (λ os. (to-end lim os cut xs f, λ w. end-back lim os cut xs (w .1 .0) f (w .0) (w .1 .1))) told
@@ -132,7 +133,8 @@ module _ (c : CFGR) (f : List ℕ) (lim : ℕ) (xs : List ℕ) (cut : ℕ) (x : 
       told t v at-cut h = absurd (let q : _≡_ {A = ℕ} 0 1 = cc in omega arith)
       told t v (at-wait k) h = absurd (let q : _≡_ {A = ℕ} 0 1 = cc in omega arith)
 
-  -- cut, with these clocks and field codes, exactly if the limit is good, the plan accepted with them and the cut reached: every wait before the store that it names answered
+  -- cut, with these clocks and field codes, exactly if the limit is good, the plan accepted with them and the cut reached: each wait
+  -- before the store that it names answered
   pub cut-reached-exactly : (startOf c f lim xs cut .outcome ≡ Cut x y)
       ↔ (Between 1 65535 lim × ((d : CFGR) × (k : ℕ) × (planOf c ≡ Ready d k x y) × Reached lim (opsOf d y) cut xs))
   cut-reached-exactly = by-ending (λ os. Reached lim os cut xs) at-cut

@@ -57,7 +57,8 @@ module _ (file : List ℕ) (lim : ℕ) (xs : List ℕ) (cut : ℕ) (clocks : Lis
       never b (Malformed fault) = λ e. let h = malformed-14 fault in omega arith
       never b (Config c) = by-places c (λ (n : ℕ). n ≡ 13 → ⊥) (λ l e. apart b (thirteen-exactly c file lim xs cut .0 e)) (λ n e. omega arith)
 
-  -- 14 exactly if the limit is good and the record is malformed or the file has another number of places, whatever else the start would give
+  -- 14 exactly if the limit is good and the record is malformed or the file has another number of places, whatever else the start
+  -- would give
   pub start-14-exactly : (z : Reading) → (startReply z file lim xs cut clocks .report .refusal ≡ 14)
       ↔ (Between 1 65535 lim × (((fault : Fault) × (z ≡ Malformed fault)) ⊎ (length file ≡ PLACES → ⊥)))
   start-14-exactly z = by-limit z (λ (n : ℕ). (n ≡ 14) ↔ (Between 1 65535 lim × Bad z))
