@@ -20,7 +20,7 @@ const SEED: u64 = 1;
 const TIMINGS: usize = 9;
 
 /// The records of the files by which the program's time is seen to grow.
-const SIZES: [usize; 4] = [1_000, 10_000, 100_000, 1_000_000];
+const SIZES: [usize; 5] = [0, 1_000, 10_000, 100_000, 1_000_000];
 
 /// How much faster we are depends on how many records make the Rust search: so not only a fleet
 /// is timed.
@@ -48,28 +48,31 @@ pub fn run(folder: &Path, planner: &[String]) -> Result<bool> {
         }
     }
     let all = fleet::records(&assertions, fleet::FLEET, MOST as u64, SEED);
-    grow(&folder.join("growing.records"), &all, planner)?;
+    grow(folder, &all, planner)?;
     Ok(same)
 }
 
-/// What the program takes for the first records of a fleet, as the file grows to all of them.
-fn grow(file: &Path, all: &[u8], planner: &[String]) -> Result<()> {
-    fs::write(file, [])?;
-    let none = least_time(planner, file)?;
-    say!("the program as the file grows: no record {:.3} ms", 1e3 * none);
-    let mut shares = Vec::new();
-    for records in SIZES {
+/// What the program takes for the first records of a fleet, as the file grows to all of them: the
+/// files by turns, so that what else the machine does meets all alike.
+fn grow(folder: &Path, all: &[u8], planner: &[String]) -> Result<()> {
+    let files = SIZES.map(|records| folder.join(format!("first {records}.records")));
+    for (file, records) in files.iter().zip(SIZES) {
         fs::write(file, &all[..records * RECORD])?;
-        let seconds = least_time(planner, file)?;
-        let share = |seconds: f64| 1e9 * seconds / records as f64;
-        let (each, on_top) = (share(seconds), share(seconds - none));
-        let ms = 1e3 * seconds;
-        say!("{records:8} records {ms:8.3} ms, ns a record {each:.0}, on top of none {on_top:.0}");
-        shares.push((each, on_top));
     }
-    let ((few, few_on_top), (many, many_on_top)) = (shares[1], shares[3]);
-    let (ratio, on_top) = (many / few, many_on_top / few_on_top);
-    say!("a record of 1000000 over one of 10000: {ratio:.3}, on top of none {on_top:.3}");
+    let mut timings = [[0.0; TIMINGS]; SIZES.len()];
+    for turn in 0..TIMINGS {
+        for (file, timing) in files.iter().zip(&mut timings) {
+            timing[turn] = time(planner, file, &file.with_extension("lines"))?;
+        }
+    }
+    let seconds = timings.map(least);
+    let each = |place: usize| 1e9 * (seconds[place] - seconds[0]) / SIZES[place] as f64;
+    say!("the program as the file grows: no record {:.3} ms", 1e3 * seconds[0]);
+    for (place, records) in SIZES.into_iter().enumerate().skip(1) {
+        let (ms, each) = (1e3 * seconds[place], each(place));
+        say!("{records:8} records {ms:8.3} ms, on top of no record {each:.0} ns each");
+    }
+    say!("one of 1000000 records over one of 10000: {:.3}", each(4) / each(2));
     Ok(())
 }
 
@@ -113,19 +116,13 @@ fn time(words: &[String], input: &Path, output: &Path) -> Result<f64> {
 /// Our nanoseconds for as many records that are read, checked and answered, and not planned: all
 /// bytes are 0, so M is refused with 6.
 fn time_unplanned(file: &Path, length: usize, ours: &[String]) -> Result<f64> {
-    let file = file.with_extension("zeros");
+    let (file, lines) = (file.with_extension("zeros"), file.with_extension("refused"));
     fs::write(&file, vec![0; length])?;
-    Ok(least_time(ours, &file)? * 1e9 * RECORD as f64 / length as f64)
-}
-
-/// The least seconds of the program on a file.
-fn least_time(ours: &[String], file: &Path) -> Result<f64> {
-    let lines = file.with_extension("lines");
     let mut timings = [0.0; TIMINGS];
     for timing in &mut timings {
-        *timing = time(ours, file, &lines)?;
+        *timing = time(ours, &file, &lines)?;
     }
-    Ok(least(timings))
+    Ok(least(timings) * 1e9 * RECORD as f64 / length as f64)
 }
 
 /// Where our time goes: the program's, and that of the functions for C on the same records in
