@@ -26,7 +26,7 @@ use Rattle.pll.proofs.Theorems.{output-given}
 use Rattle.pll.proofs.Settings.{input-within, p-range}
 use Rattle.clocks.specs.Ratio.{ratioUp}
 use Rattle.clocks.specs.Rows.{Row, hpreRow, ppreRow}
-use Rattle.pll.specs.Outputs.{baseOf, pOutputOf}
+use Rattle.pll.specs.Outputs.{baseOf, pOutputOf, qLow, qHigh}
 use Rattle.clocks.specs.Derive.{sysclkOf, wantedOf, hpreOf, ahbFor, capOf, timclkOf, apbFor, validOf, cap1Of, cap2Of, clocksBy, configBy, clocksOf, configOf, ahbOf, apb1Of, apb2Of, settledOf, derivedOf}
 use Rattle.clocks.specs.Inner.{grantedOf, hpreHeld, ppreHeld, wholeOf, Sysclk, Hclk, sysclkBy}
 use Rattle.clocks.specs.declared.Hpre.{Hpre}
@@ -62,11 +62,11 @@ module _ (f : ℕ) (l : Pll) where
     unfolding validOf
     valid-none e = rw e
 
-    pub valid-q : {r : Bool} {x : ℕ} → l .pll48clk ≡ Pllq → r ≡ inside 47880000 48120000 x → x ≡ outOf (vcoOf f (l .n .0) (l .m .0)) (l .q .0) → r ≡ validOf f l a
+    pub valid-q : {r : Bool} {x : ℕ} → l .pll48clk ≡ Pllq → r ≡ inside qLow qHigh x → x ≡ outOf (vcoOf f (l .n .0) (l .m .0)) (l .q .0) → r ≡ validOf f l a
     unfolding validOf
     valid-q e er ex = er ∙ rw (e, ex)
 
-    pub valid-sai : {r : Bool} {x d : ℕ} → l .pll48clk ≡ Pllsai → a .use_pllsai ≡ true → r ≡ inside 47880000 48120000 x → x ≡ outOf (vcoOf f (a .n .0) (l .m .0)) d → d ≡ pDividerOf (a .p) → r ≡ validOf f l a
+    pub valid-sai : {r : Bool} {x d : ℕ} → l .pll48clk ≡ Pllsai → a .use_pllsai ≡ true → r ≡ inside qLow qHigh x → x ≡ outOf (vcoOf f (a .n .0) (l .m .0)) d → d ≡ pDividerOf (a .p) → r ≡ validOf f l a
     unfolding validOf
     valid-sai e et er ex ed = er ∙ rw (e, et, ex, ed)
 

@@ -10,7 +10,7 @@ use Rattle.kinds.specs.Limits.{checkOf}
 use Rattle.kinds.specs.Table.{Between, Refused, LeastOf, Least, none, least, Checked}
 use Rattle.kinds.proofs.Check.{exactly, check-told, told-check, kept-none, check-least, check-le}
 use Rattle.kinds.specs.declared.CFGR.{CFGR}
-use Rattle.clocks.specs.Derive.{sysclkOf, cap1Of, cap2Of, ahbFor, ahbOf, apb1Of, apb2Of, waitsOf, clocksOf, configOf, settledOf, derivedOf}
+use Rattle.clocks.specs.Derive.{sysclkOf, cap1Of, cap2Of, ahbFor, ahbOf, apb1Of, apb2Of, waitStatesOf, clocksOf, configOf, settledOf, derivedOf}
 use Rattle.clocks.specs.Numbers.{derivedNumber}
 use Rattle.clocks.specs.Refusals.{DeriveRefused, limit, sysclk}
 use Rattle.clocks.specs.Inner.{Sysclk}
@@ -108,8 +108,8 @@ derive-gives-only c = from (derivedOf c) (derived-view c)
 
 -- ---- wait states
 -- up to 216 MHz the ladder is (SYSCLK − 1) / 30,000,000
-pub ladder-is-arithmetic : (s : ℕ) → s ≤ 216000000 → waitsOf s ≡ (s - 1) / 30000000
-unfolding waitsOf
+pub ladder-is-arithmetic : (s : ℕ) → s ≤ 216000000 → waitStatesOf s ≡ (s - 1) / 30000000
+unfolding waitStatesOf
 ladder-is-arithmetic s h =
     at (leb s 30000000) (leb s 60000000) (leb s 90000000) (leb s 120000000) (leb s 150000000) (leb s 180000000) (leb s 210000000) refl refl refl refl refl refl refl
   where
@@ -125,8 +125,8 @@ ladder-is-arithmetic s h =
     at false false false false false false false p q r t u v w = omega (arith, leb-false s 210000000 w)
 
 -- and above it is as for 216 MHz
-pub ladder-above : (s : ℕ) → 216000000 ≤ s → waitsOf s ≡ waitsOf 216000000
-unfolding waitsOf
+pub ladder-above : (s : ℕ) → 216000000 ≤ s → waitStatesOf s ≡ waitStatesOf 216000000
+unfolding waitStatesOf
 ladder-above s h =
     rw (lt-leb s 30000000 (omega arith), lt-leb s 60000000 (omega arith), lt-leb s 90000000 (omega arith), lt-leb s 120000000 (omega arith), lt-leb s 150000000 (omega arith), lt-leb s 180000000 (omega arith), lt-leb s 210000000 (omega arith))
 
@@ -159,6 +159,6 @@ module _ (c : CFGR) (x : Clocks) (y : InternalRCCConfig) (e : derivedOf c ≡ At
   pclk2-within-cap = carried (λ z w. Between 1 (cap2Of (z .sysclk .0)) (z .pclk2 .0)) (λ k s. pclk-within _ _ _ _ (c .requests .pclk2) caps2 s (hpre-power _ _) (k .requests .pclk2))
 
   -- the wait states are (SYSCLK − 1) / 30,000,000
-  pub waits-by-arithmetic : y .«flash_waitstates» ≡ (x .sysclk .0 - 1) / 30000000
+  pub wait-states-by-arithmetic : y .«flash_waitstates» ≡ (x .sysclk .0 - 1) / 30000000
   unfolding clocksOf configOf
-  waits-by-arithmetic = carried (λ z w. w .«flash_waitstates» ≡ (z .sysclk .0 - 1) / 30000000) (λ k s. ladder-is-arithmetic (sysclkOf c) (s .high))
+  wait-states-by-arithmetic = carried (λ z w. w .«flash_waitstates» ≡ (z .sysclk .0 - 1) / 30000000) (λ k s. ladder-is-arithmetic (sysclkOf c) (s .high))

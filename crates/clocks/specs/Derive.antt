@@ -18,7 +18,7 @@ use Rattle.kinds.specs.declared.HSEClock.the-variants.{Absent as NoHse, Oscilla
 use Rattle.kinds.specs.declared.LSEClock.{LSEClock}
 use Rattle.kinds.specs.declared.LSEClock.the-variants.{Absent as NoLse, Oscillator as LseOscillator, Bypass as LseBypass}
 use Rattle.pll.specs.Fixed.{inside, vcoOf, outOf}
-use Rattle.pll.specs.Outputs.{baseOf, pOutputOf}
+use Rattle.pll.specs.Outputs.{baseOf, pOutputOf, qLow, qHigh}
 use Rattle.clocks.specs.Ratio.{ratioUp}
 use Rattle.clocks.specs.Rows.{Row, row, hpreRow, ppreRow}
 use Rattle.clocks.specs.declared.Ahb.{Ahb}
@@ -71,8 +71,8 @@ unfoldable pub apbFor : ℕ → ℕ → Request → Apb
 apbFor most h q = apbBy h (ppreRow (ratioUp h (wantedOf most h q)))
 
 -- wait states: 0 up to 30 MHz, one more for each further 30 MHz begun, 7 above 210 MHz
-unfoldable pub waitsOf : ℕ → ℕ
-waitsOf s =
+unfoldable pub waitStatesOf : ℕ → ℕ
+waitStatesOf s =
     cond (leb s 30000000) 0
     (cond (leb s 60000000) 1
     (cond (leb s 90000000) 2
@@ -93,8 +93,8 @@ overdriveOf s = ltb 180000000 s
 -- with no choice, or PLLSAI chosen but not used, it isn't valid
 abbrev pub validBy : Choice48 → ℕ → Pll → Sai → Bool
 validBy NoChoice f l a = false
-validBy Pllq f l a = inside 47880000 48120000 (outOf (vcoOf f (l .n .0) (l .m .0)) (l .q .0))
-validBy Pllsai f l a = a .use_pllsai && inside 47880000 48120000 (outOf (vcoOf f (a .n .0) (l .m .0)) (pDividerOf (a .p)))
+validBy Pllq f l a = inside qLow qHigh (outOf (vcoOf f (l .n .0) (l .m .0)) (l .q .0))
+validBy Pllsai f l a = a .use_pllsai && inside qLow qHigh (outOf (vcoOf f (a .n .0) (l .m .0)) (pDividerOf (a .p)))
 
 unfoldable pub validOf : ℕ → Pll → Sai → Bool
 validOf f l a = validBy (l .pll48clk) f l a
@@ -135,7 +135,7 @@ configBy s bus one two =
       hpre = bus .hpre;
       ppre1 = one .ppre;
       ppre2 = two .ppre;
-      «flash_waitstates» = waitsOf s;
+      «flash_waitstates» = waitStatesOf s;
       overdrive = overdriveOf s;
       «vos_scale» = scaleOf s;
     }

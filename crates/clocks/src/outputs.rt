@@ -9,6 +9,7 @@ use pll::Outcome;
 ghost use mathlib.Core.Path.{_≡_};
 ghost use Rattle.kinds.specs.Table.{PllWithin, SaiWithin};
 ghost use Rattle.pll.specs.Fixed.{InputOk, SettingsOk, inside, vcoOf, outOf};
+ghost use Rattle.pll.specs.Outputs.{qLow, qHigh};
 ghost use Rattle.clocks.specs.Derive.{validOf};
 ghost use Rattle.clocks.specs.Inner.{sysclkBy};
 
@@ -38,9 +39,13 @@ pub(crate) fn sysclk(f: Hertz, l: Pll) -> u64
 
 // Whether an output lies in the Q window.
 fn inside_48(x: u64) -> bool
-    ensures { λ r. ⌜ r ≡ inside 47880000 48120000 x ⌝ }
+    ensures { λ r. ⌜ r ≡ inside qLow qHigh x ⌝ }
 {
-    if 47880000 <= x { x <= 48120000 } else { false }
+    if pll::Q_LOW as u64 <= x {
+        x <= pll::Q_HIGH as u64
+    } else {
+        false
+    }
 }
 
 pub(crate) fn pll48clk_valid(f: Hertz, l: Pll, a: Sai) -> bool

@@ -1,10 +1,10 @@
 // What a SYSCLK asks of flash and power: wait states, voltage scale, over-drive.
 use kinds::Hertz;
 ghost use mathlib.Core.Path.{_≡_};
-ghost use Rattle.clocks.specs.Derive.{waitsOf, scaleOf, overdriveOf};
+ghost use Rattle.clocks.specs.Derive.{waitStatesOf, scaleOf, overdriveOf};
 
 pub(crate) fn flash_waitstates(s: Hertz) -> u8
-    ensures { λ r. ⌜ r ≡ waitsOf (s .0) ⌝ }
+    ensures { λ r. ⌜ r ≡ waitStatesOf (s .0) ⌝ }
 {
     if s.0 <= 30000000 {
         0

@@ -16,7 +16,7 @@ use Rattle.pll.specs.declared.Found.the-variants.{Nothing}
 use Rattle.pll.proofs.Theorems.{answer-is-right}
 use Rattle.pll.specs.Outputs.{pOutputOf}
 use Rattle.configure.specs.Configure.{offOf, baseIn, wantedIn, pWindowIn, qWindowIn, configuredOf, numberOf, passesOf}
-use Rattle.configure.specs.Ways.{searchIn, Seeks, gives, Ways, refused, unneeded, fitting, missed, found, NoneGood, Plans, Near, Keeps}
+use Rattle.configure.specs.Ways.{searchIn, Seeks, gives, Ways, refused, unneeded, fitting, missed, found, NoneGood, Settles, Near, Keeps}
 use Rattle.configure.specs.declared.Configured.{Configured}
 use Rattle.configure.specs.declared.Configured.the-variants.{Refused, Ready}
 use Rattle.configure.proofs.Configuring.{wanted-range, base-range}
@@ -88,7 +88,7 @@ module _ (c : CFGR) where
       cases (Ready d k) (found s a) = absurd (w s)
 
 -- ---- a configuration as planned
-ready-way : (c d : CFGR) (k : ℕ) → Plans c d k → Ways c (Ready d k)
+ready-way : (c d : CFGR) (k : ℕ) → Settles c d k → Ways c (Ready d k)
 ready-way c d k e = subst (λ (r : Configured). Ways c r) e (configured-way c)
 
 off-checked : {c : CFGR} → Checked c → Checked (offOf c)
@@ -99,7 +99,7 @@ unfolding wantedIn baseIn
 wanted-high c h = wanted-range (c .requests .sysclk) _ (h .requests .sysclk) (base-range c h) .high
 
 -- it comes of a configuration whose limits are kept
-pub planned-from : (c d : CFGR) (k : ℕ) → Plans c d k → Checked c
+pub planned-from : (c d : CFGR) (k : ℕ) → Settles c d k → Checked c
 planned-from c d k e = of (ready-way c d k e)
   where
     of : {d : CFGR} {k : ℕ} → Ways c (Ready d k) → Checked c
@@ -108,7 +108,7 @@ planned-from c d k e = of (ready-way c d k e)
     of (found s a) = s .checked
 
 -- every limit is kept, so that no check refuses it
-pub planned-checked : (c d : CFGR) (k : ℕ) → Plans c d k → Checked d
+pub planned-checked : (c d : CFGR) (k : ℕ) → Settles c d k → Checked d
 planned-checked c d k e = of (ready-way c d k e)
   where
     of : {d : CFGR} {k : ℕ} → Ways c (Ready d k) → Checked d
@@ -117,7 +117,7 @@ planned-checked c d k e = of (ready-way c d k e)
     of (found {m = m} {n = n} {x = x} {y = y} {k = i} s a) = found-checked c m n x y i a (s .checked)
 
 -- nothing but the main PLL's settings has changed, and not the 48 MHz choice
-pub planned-keeps : (c d : CFGR) (k : ℕ) → Plans c d k → Keeps c d
+pub planned-keeps : (c d : CFGR) (k : ℕ) → Settles c d k → Keeps c d
 planned-keeps c d k e = of (ready-way c d k e)
   where
     of : {d : CFGR} {k : ℕ} → Ways c (Ready d k) → Keeps c d
@@ -126,7 +126,7 @@ planned-keeps c d k e = of (ready-way c d k e)
     of (found {m = m} {n = n} {x = x} {y = y} s a) = record { sources = refl; requests = refl; choice = taken-48 (c .pll) m n x y; sai = refl; i2s = refl; mco = refl }
 
 -- with `use_pll`, its P output is at most 216 MHz
-pub planned-output : (c d : CFGR) (k : ℕ) → Plans c d k → d .pll .use_pll ≡ true → pOutputOf d ≤ 216000000
+pub planned-output : (c d : CFGR) (k : ℕ) → Settles c d k → d .pll .use_pll ≡ true → pOutputOf d ≤ 216000000
 planned-output c d k e = of (ready-way c d k e)
   where
     of : {d : CFGR} {k : ℕ} → Ways c (Ready d k) → d .pll .use_pll ≡ true → pOutputOf d ≤ 216000000
@@ -135,7 +135,7 @@ planned-output c d k e = of (ready-way c d k e)
     of (found {m = m} {n = n} {x = x} {y = y} {k = i} s a) u = found-output c m n x y i a
 
 -- with `use_pll` and a P window, it is at most 1 Hz above the wanted SYSCLK and at most 15 Hz below it
-pub planned-near : (c d : CFGR) (k : ℕ) → Plans c d k → d .pll .use_pll ≡ true → (pWindowIn c ≡ Absent → ⊥) → Near (wantedIn c) (pOutputOf d)
+pub planned-near : (c d : CFGR) (k : ℕ) → Settles c d k → d .pll .use_pll ≡ true → (pWindowIn c ≡ Absent → ⊥) → Near (wantedIn c) (pOutputOf d)
 planned-near c d k e = of (ready-way c d k e)
   where
     of : {d : CFGR} {k : ℕ} → Ways c (Ready d k) → d .pll .use_pll ≡ true → (pWindowIn c ≡ Absent → ⊥) → Near (wantedIn c) (pOutputOf d)
@@ -145,10 +145,10 @@ planned-near c d k e = of (ready-way c d k e)
 
 -- ---- planned again
 -- it stays as it is; its passes are the same where its own search runs, else 0
-pub planned-again : (c d : CFGR) (k : ℕ) → Plans c d k → (Seeks d → Plans d d k) × ((Seeks d → ⊥) → Plans d d 0)
+pub planned-again : (c d : CFGR) (k : ℕ) → Settles c d k → (Seeks d → Settles d d k) × ((Seeks d → ⊥) → Settles d d 0)
 planned-again c d k e = of (ready-way c d k e)
   where
-    of : {d : CFGR} {k : ℕ} → Ways c (Ready d k) → (Seeks d → Plans d d k) × ((Seeks d → ⊥) → Plans d d 0)
+    of : {d : CFGR} {k : ℕ} → Ways c (Ready d k) → (Seeks d → Settles d d k) × ((Seeks d → ⊥) → Settles d d 0)
     of (unneeded h p q) = off-again c (off-checked h) p q _ (configured-way (offOf c))
     of (fitting h s q f) = same-again c h s q f _ (configured-way c)
     of (found {m = m} {n = n} {x = x} {y = y} {k = i} s a) = found-again c m n x y i s a _ (configured-way (gives c m n x y))

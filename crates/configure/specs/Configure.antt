@@ -15,7 +15,7 @@ use Rattle.kinds.specs.declared.Request.{Request}
 use Rattle.kinds.specs.declared.Request.the-variants.{Absent as NoRequest, At}
 use Rattle.kinds.specs.declared.Choice48.{Choice48}
 use Rattle.kinds.specs.declared.Choice48.the-variants.{Absent as NoChoice, Pllq, Pllsai}
-use Rattle.pll.specs.Outputs.{baseOf, pOutputOf}
+use Rattle.pll.specs.Outputs.{baseOf, pOutputOf, qLow, qHigh}
 use Rattle.pll.specs.Walk.{searchOf}
 use Rattle.pll.specs.declared.Window.{Window}
 use Rattle.pll.specs.declared.Window.the-variants.{Absent, Within}
@@ -38,7 +38,7 @@ pWindowOf w b = cond (eqb w b) Absent (Within (record { 0 = w - 1 }) (record { 0
 -- the Q window is present only when the 48 MHz clock comes from PLLQ
 abbrev pub qWindowOf : Choice48 → Window
 qWindowOf NoChoice = Absent
-qWindowOf Pllq = Within (record { 0 = 47880000 }) (record { 0 = 48120000 })
+qWindowOf Pllq = Within (record { 0 = qLow }) (record { 0 = qHigh })
 qWindowOf Pllsai = Absent
 
 abbrev pub pllpOf : ℕ → PLLP

@@ -44,8 +44,8 @@ pub data Ways (c : CFGR) : Configured → Type 0 where
   found : {m : Divider} {n : Factor} {x y : Sought} {k : ℕ} → Seeks c → searchIn c ≡ Pair m n x y k → Ways c (Ready (gives c m n x y) k)
 
 -- d is c as planned, after k passes
-abbrev pub Plans : CFGR → CFGR → ℕ → Type 0
-Plans c d k = configuredOf c ≡ Ready d k
+abbrev pub Settles : CFGR → CFGR → ℕ → Type 0
+Settles c d k = configuredOf c ≡ Ready d k
 
 -- SYSCLK s beside a wanted value w: at most 1 Hz above it and 15 Hz below it
 pub record Near (w s : ℕ) : Type 0 where

@@ -40,7 +40,7 @@ pub(crate) fn q_window(choice: Choice48) -> Window
 {
     match choice {
         Choice48::Absent => Window::Absent,
-        Choice48::Pllq => Window::Within(Hertz(47880000), Hertz(48120000)),
+        Choice48::Pllq => Window::Within(Hertz(pll::Q_LOW), Hertz(pll::Q_HIGH)),
         Choice48::Pllsai => Window::Absent,
     }
 }

@@ -10,7 +10,7 @@ use Rattle.kinds.specs.Limits.{outsideOf, firstOf}
 use Rattle.kinds.specs.Table.{Between, Outside, LeastOf, none, least}
 use Rattle.kinds.proofs.Check.{Told, inside, broken, outside-told}
 use Rattle.kinds.specs.declared.CFGR.{CFGR}
-use Rattle.plan.specs.Plan.{saiRefusal, i2sRefusal, limitsOf}
+use Rattle.plan.specs.Plan.{saiLate, i2sLate, limitsOf}
 use Rattle.plan.specs.Refusals.{roughIn, SaiVco, SaiP, I2sVco, Late, sai-vco, sai-p, i2s-vco}
 
 unused : (t : Bool) → t ≡ false → t ≡ true → ⊥
@@ -29,8 +29,8 @@ module _ (d : CFGR) where
   abbrev saiVco : ℕ
   saiVco = roughIn d (d .sai .n .0)
 
-  sai-view : SaiView (saiRefusal (inputOf (d .sources .hse)) (d .pll .m .0) (d .sai))
-  unfolding saiRefusal firstOf
+  sai-view : SaiView (saiLate (inputOf (d .sources .hse)) (d .pll .m .0) (d .sai))
+  unfolding saiLate firstOf
   sai-view = from (d .sai .use_pllsai) refl
     where
       at : d .sai .use_pllsai ≡ true → (a b : ℕ) → Told (Between 192000000 432000000 saiVco) (Outside 192000000 432000000 saiVco) 9 a
@@ -47,8 +47,8 @@ module _ (d : CFGR) where
   abbrev i2sVco : ℕ
   i2sVco = roughIn d (d .i2s .n .0)
 
-  i2s-view : I2sView (i2sRefusal (inputOf (d .sources .hse)) (d .pll .m .0) (d .i2s))
-  unfolding i2sRefusal
+  i2s-view : I2sView (i2sLate (inputOf (d .sources .hse)) (d .pll .m .0) (d .i2s))
+  unfolding i2sLate
   i2s-view = from (d .i2s .use_plli2s) refl
     where
       at : d .i2s .use_plli2s ≡ true → (a : ℕ) → Told (Between 192000000 432000000 i2sVco) (Outside 192000000 432000000 i2sVco) 11 a → I2sView a

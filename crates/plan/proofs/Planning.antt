@@ -21,7 +21,7 @@ use Rattle.clocks.specs.declared.Derived.{Derived}
 use Rattle.clocks.specs.declared.Derived.the-variants.{Refused as NotDerived, At}
 use Rattle.clocks.specs.Numbers.{derivedNumber}
 use Rattle.clocks.proofs.Theorems.{derive-accepts-exactly}
-use Rattle.plan.specs.Plan.{roughOf, saiRefusal, i2sRefusal, limitsOf, limitedOf, clockedOf, plannedOf, planOf}
+use Rattle.plan.specs.Plan.{roughOf, saiLate, i2sLate, limitsOf, limitedOf, clockedOf, plannedOf, planOf}
 use Rattle.plan.specs.declared.Planned.{Planned}
 use Rattle.plan.specs.declared.Planned.the-variants.{Refused}
 
@@ -29,27 +29,27 @@ use Rattle.plan.specs.declared.Planned.the-variants.{Refused}
 pub rough-le : (f m n : ℕ) → f ≤ 50000000 → n ≤ 432 → f / m * n ≤ 50000000 * 432
 rough-le f m n a b = mul-le-mul (le-trans (div-le-self f m) a) b
 
-pub sai-on : (f m : ℕ) (s : Sai) {r v d x y : ℕ} → r ≡ firstOf x y → x ≡ outsideOf 192000000 432000000 9 v → y ≡ outsideOf 0 48000000 10 (v / d) → v ≡ roughOf f m (s .n .0) → d ≡ pDividerOf (s .p) → s .use_pllsai ≡ true → r ≡ saiRefusal f m s
-unfolding saiRefusal
+pub sai-on : (f m : ℕ) (s : Sai) {r v d x y : ℕ} → r ≡ firstOf x y → x ≡ outsideOf 192000000 432000000 9 v → y ≡ outsideOf 0 48000000 10 (v / d) → v ≡ roughOf f m (s .n .0) → d ≡ pDividerOf (s .p) → s .use_pllsai ≡ true → r ≡ saiLate f m s
+unfolding saiLate
 sai-on f m s a ex ey ev ed e = a ∙ rw (ex, ey, ev, ed, e)
 
-pub sai-off : (f m : ℕ) (s : Sai) → s .use_pllsai ≡ false → 0 ≡ saiRefusal f m s
-unfolding saiRefusal
+pub sai-off : (f m : ℕ) (s : Sai) → s .use_pllsai ≡ false → 0 ≡ saiLate f m s
+unfolding saiLate
 sai-off f m s e = rw e
 
-pub i2s-on : (f m : ℕ) (i : I2s) {r v : ℕ} → r ≡ outsideOf 192000000 432000000 11 v → v ≡ roughOf f m (i .n .0) → i .use_plli2s ≡ true → r ≡ i2sRefusal f m i
-unfolding i2sRefusal
+pub i2s-on : (f m : ℕ) (i : I2s) {r v : ℕ} → r ≡ outsideOf 192000000 432000000 11 v → v ≡ roughOf f m (i .n .0) → i .use_plli2s ≡ true → r ≡ i2sLate f m i
+unfolding i2sLate
 i2s-on f m i a b e = a ∙ rw (b, e)
 
-pub i2s-off : (f m : ℕ) (i : I2s) → i .use_plli2s ≡ false → 0 ≡ i2sRefusal f m i
-unfolding i2sRefusal
+pub i2s-off : (f m : ℕ) (i : I2s) → i .use_plli2s ≡ false → 0 ≡ i2sLate f m i
+unfolding i2sLate
 i2s-off f m i e = rw e
 
 -- what the checks of a checked configuration ask for
 pub limits-ask : (c : CFGR) → Checked c → {f : ℕ} (n : ℕ) → f ≡ inputOf (c .sources .hse) → n ≤ 432 → (f ≤ 50000000) × (2 ≤ c .pll .m .0) × (n ≤ 432)
 limits-ask c k n e h = (rw e (input-within (c .sources .hse) (k .hse) .high), k .pll .m .low, h)
 
-pub limits-are : (c : CFGR) {r f x y : ℕ} → r ≡ firstOf x y → x ≡ saiRefusal f (c .pll .m .0) (c .sai) → y ≡ i2sRefusal f (c .pll .m .0) (c .i2s) → f ≡ inputOf (c .sources .hse) → r ≡ limitsOf c
+pub limits-are : (c : CFGR) {r f x y : ℕ} → r ≡ firstOf x y → x ≡ saiLate f (c .pll .m .0) (c .sai) → y ≡ i2sLate f (c .pll .m .0) (c .i2s) → f ≡ inputOf (c .sources .hse) → r ≡ limitsOf c
 unfolding limitsOf
 limits-are c a b d e = a ∙ rw (b, d, e)
 

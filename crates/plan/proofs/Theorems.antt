@@ -14,7 +14,7 @@ use Rattle.pll.proofs.Dividers.{split}
 use Rattle.pll.specs.Outputs.{pOutputOf}
 use Rattle.pll.specs.declared.Window.the-variants.{Absent}
 use Rattle.configure.specs.Configure.{baseIn, wantedIn, pWindowIn, configuredOf, numberOf as configuredNumber, passesOf as configuredPasses}
-use Rattle.configure.specs.Ways.{Seeks, Plans, Near, Keeps}
+use Rattle.configure.specs.Ways.{Seeks, Settles, Near, Keeps}
 use Rattle.configure.specs.declared.Configured.{Configured}
 use Rattle.configure.specs.declared.Configured.the-variants.{Refused as NotConfigured, Ready as Configures}
 use Rattle.configure.proofs.Theorems.{refuses-with-7-exactly, planned-from, planned-checked, planned-keeps, planned-again, planned-near}
@@ -32,7 +32,7 @@ use Rattle.plan.proofs.View.{PlanView, refused, missed, limited, ready,
 
 -- ---- which number it is
 -- a configuration that is planned kept every limit, and its search has an answer: 9 to 11 alone are left
-planned-only : (c d : CFGR) (k : ℕ) → Plans c d k → (n : ℕ) → PlanRefused c n → Late d n
+planned-only : (c d : CFGR) (k : ℕ) → Settles c d k → (n : ℕ) → PlanRefused c n → Late d n
 planned-only c d k e n (limit r) = absurd (kept-none c (planned-from c d k e) n r)
 planned-only c d k e n (search s g) =
     absurd (let h = refuses-with-7-exactly c .1 (s, g) in let z : _≡_ {A = ℕ} 0 7 = sym (ap (λ (r : Configured). configuredNumber r) e) ∙ h in omega arith)
@@ -61,7 +61,7 @@ plan-least c = from (planOf c) (plan-view c)
     unfound s k (search t g) = omega arith
     unfound s k (late {d = d} y x) = omega (arith, late-low d k x .low)
 
-    lates : (d : CFGR) (k : ℕ) → Plans c d k → (a : ℕ) → LeastOf (Late d) a → LeastOf (PlanRefused c) a
+    lates : (d : CFGR) (k : ℕ) → Settles c d k → (a : ℕ) → LeastOf (Late d) a → LeastOf (PlanRefused c) a
     lates d k e a (none f) = none (λ n r. f n (planned-only c d k e n r))
     lates d k e a (least x f) = least (late e x) (λ n r. f n (planned-only c d k e n r))
 
@@ -76,7 +76,7 @@ pub plan-refuses-exactly : (c : CFGR) (n : ℕ) → (numberOf (planOf c) ≡ n) 
 plan-refuses-exactly c n = exactly (plan-least c)
 
 -- it accepts exactly if pll_configure settles the main PLL and none of 9 to 11 is given; a plan is handed back then, and only then
-pub plan-accepts-exactly : (c : CFGR) → (numberOf (planOf c) ≡ 0) ↔ ((d : CFGR) × (k : ℕ) × Plans c d k × ((n : ℕ) → Late d n → ⊥))
+pub plan-accepts-exactly : (c : CFGR) → (numberOf (planOf c) ≡ 0) ↔ ((d : CFGR) × (k : ℕ) × Settles c d k × ((n : ℕ) → Late d n → ⊥))
 plan-accepts-exactly c = (λ e. forth (planOf c) (plan-view c) e, λ w. back (w .0) (w .1) (w .2) (w .3))
   where
     unlimited : (d : CFGR) (a : ℕ) → LeastOf (Late d) a → a ≡ 0 → (n : ℕ) → Late d n → ⊥
@@ -87,13 +87,13 @@ plan-accepts-exactly c = (λ e. forth (planOf c) (plan-view c) e, λ w. back (w 
     zero d a (none f) g = refl
     zero d a (least l f) g = absurd (g a l)
 
-    forth : (p : Planned) → PlanView c p → numberOf p ≡ 0 → (d : CFGR) × (k : ℕ) × Plans c d k × ((n : ℕ) → Late d n → ⊥)
+    forth : (p : Planned) → PlanView c p → numberOf p ≡ 0 → (d : CFGR) × (k : ℕ) × Settles c d k × ((n : ℕ) → Late d n → ⊥)
     forth p (refused z) e = absurd (z e)
     forth p (missed s g) e = absurd (omega arith)
     forth p (limited a z) e = absurd (z e)
     forth p (ready {d = d} {k = k} a z) e = (d, k, a, unlimited d (limitsOf d) (late-least d) z)
 
-    back : (d : CFGR) (k : ℕ) → Plans c d k → ((n : ℕ) → Late d n → ⊥) → numberOf (planOf c) ≡ 0
+    back : (d : CFGR) (k : ℕ) → Settles c d k → ((n : ℕ) → Late d n → ⊥) → numberOf (planOf c) ≡ 0
     back d k a f = ap (λ (p : Planned). numberOf p) (plan-of c d k a (zero d (limitsOf d) (late-least d) f))
 
 -- a refusal has a number that is not 0
@@ -151,7 +151,7 @@ passes-are-configure's c = from (configuredOf c)
 module _ (c d : CFGR) (k : ℕ) (x : Clocks) (y : InternalRCCConfig) (e : planOf c ≡ Ready d k x y) where
   -- what it is made of
   record Made : Type 0 where
-    plans : Plans c d k
+    plans : Settles c d k
     unlimited : limitsOf d ≡ 0
     clocks : clocksOf d ≡ x
     config : configOf d ≡ y
@@ -172,7 +172,7 @@ module _ (c d : CFGR) (k : ℕ) (x : Clocks) (y : InternalRCCConfig) (e : planOf
           both p q = rw (p, q)
 
   -- its configuration is pll_configure's, and nothing but the main PLL's settings has changed
-  pub plan-is-configured : Plans c d k × Keeps c d
+  pub plan-is-configured : Settles c d k × Keeps c d
   plan-is-configured = (made .plans, planned-keeps c d k (made .plans))
 
   -- its clocks and codes are what derive gives for it, so that what is promised of derive is promised of a plan
@@ -186,13 +186,13 @@ module _ (c d : CFGR) (k : ℕ) (x : Clocks) (y : InternalRCCConfig) (e : planOf
   pub plan-again : (Seeks d → planOf d ≡ Ready d k x y) × ((Seeks d → ⊥) → planOf d ≡ Ready d 0 x y)
   plan-again = (λ s. same k (again .0 s), λ s. same 0 (again .1 s))
     where
-      again : (Seeks d → Plans d d k) × ((Seeks d → ⊥) → Plans d d 0)
+      again : (Seeks d → Settles d d k) × ((Seeks d → ⊥) → Settles d d 0)
       again = planned-again c d k (made .plans)
 
       both : {a b : Clocks} {m n : InternalRCCConfig} (j : ℕ) → a ≡ b → m ≡ n → Ready d j a m ≡ Ready d j b n
       both j p q = rw (p, q)
 
-      same : (j : ℕ) → Plans d d j → planOf d ≡ Ready d j x y
+      same : (j : ℕ) → Settles d d j → planOf d ≡ Ready d j x y
       same j p = plan-of d d j p (made .unlimited) ∙ both j (made .clocks) (made .config)
 
   -- ---- SYSCLK

@@ -10,7 +10,7 @@ use Rattle.kinds.specs.Limits.{checkOf}
 use Rattle.kinds.specs.declared.CFGR.{CFGR}
 use Rattle.pll.specs.Outputs.{baseOf, pOutputOf}
 use Rattle.configure.specs.Configure.{configuredOf}
-use Rattle.configure.specs.Ways.{Seeks, NoneGood, Plans, Ways, refused as check-refused, missed as search-missed}
+use Rattle.configure.specs.Ways.{Seeks, NoneGood, Settles, Ways, refused as check-refused, missed as search-missed}
 use Rattle.configure.specs.declared.Configured.{Configured}
 use Rattle.configure.specs.declared.Configured.the-variants.{Refused as NotConfigured, Ready as Configures}
 use Rattle.configure.proofs.Configuring.{base-range}
@@ -25,7 +25,7 @@ use Rattle.plan.specs.declared.Planned.{Planned}
 use Rattle.plan.specs.declared.Planned.the-variants.{Refused, Ready}
 
 -- SYSCLK of a configuration as planned is at most 216 MHz
-planned-sysclk : (c d : CFGR) (k : ℕ) → Plans c d k → sysclkOf d ≤ 216000000
+planned-sysclk : (c d : CFGR) (k : ℕ) → Settles c d k → sysclkOf d ≤ 216000000
 unfolding sysclkOf
 planned-sysclk c d k e = from (d .pll .use_pll) refl
   where
@@ -34,17 +34,17 @@ planned-sysclk c d k e = from (d .pll .use_pll) refl
     from false a = let i = base-range d (planned-checked c d k e) in omega (arith, i .high)
 
 -- so derive answers with its clocks
-pub planned-derived : (c d : CFGR) (k : ℕ) → Plans c d k → derivedOf d ≡ At (clocksOf d) (configOf d)
+pub planned-derived : (c d : CFGR) (k : ℕ) → Settles c d k → derivedOf d ≡ At (clocksOf d) (configOf d)
 planned-derived c d k e = derive-gives d (planned-checked c d k e) (planned-sysclk c d k e)
 
 pub data PlanView (c : CFGR) : Planned → Type 0 where
   refused : (checkOf c ≡ 0 → ⊥) → PlanView c (Refused (checkOf c) 0)
   missed : {k : ℕ} → Seeks c → NoneGood c → PlanView c (Refused 7 k)
-  limited : {d : CFGR} {k : ℕ} → Plans c d k → (limitsOf d ≡ 0 → ⊥) → PlanView c (Refused (limitsOf d) k)
-  ready : {d : CFGR} {k : ℕ} → Plans c d k → limitsOf d ≡ 0 → PlanView c (Ready d k (clocksOf d) (configOf d))
+  limited : {d : CFGR} {k : ℕ} → Settles c d k → (limitsOf d ≡ 0 → ⊥) → PlanView c (Refused (limitsOf d) k)
+  ready : {d : CFGR} {k : ℕ} → Settles c d k → limitsOf d ≡ 0 → PlanView c (Ready d k (clocksOf d) (configOf d))
 
 module _ (c : CFGR) where
-  clocked-view : (d : CFGR) (k : ℕ) → Plans c d k → PlanView c (clockedOf d k (derivedOf d))
+  clocked-view : (d : CFGR) (k : ℕ) → Settles c d k → PlanView c (clockedOf d k (derivedOf d))
   unfolding clockedOf limitedOf
   clocked-view d k e = subst (λ (z : Derived). PlanView c (clockedOf d k z)) (sym (planned-derived c d k e)) (at (eqb (limitsOf d) 0) refl)
     where
@@ -65,6 +65,6 @@ module _ (c : CFGR) where
       from (Configures d k) e = clocked-view d k e
 
 -- what a plan is made of
-pub plan-of : (c d : CFGR) (k : ℕ) → Plans c d k → limitsOf d ≡ 0 → planOf c ≡ Ready d k (clocksOf d) (configOf d)
+pub plan-of : (c d : CFGR) (k : ℕ) → Settles c d k → limitsOf d ≡ 0 → planOf c ≡ Ready d k (clocksOf d) (configOf d)
 unfolding planOf plannedOf clockedOf limitedOf
 plan-of c d k e z = rw (e, planned-derived c d k e) (simp (eq-eqb _ _ z))

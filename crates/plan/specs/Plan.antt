@@ -24,20 +24,20 @@ unfoldable pub roughOf : ℕ → ℕ → ℕ → ℕ
 roughOf f m n = f / m * n
 
 -- 9: PLLSAI used, its VCO outside 192 to 432 MHz; 10: PLLSAI used, its P output above 48 MHz
-unfoldable pub saiRefusal : ℕ → ℕ → Sai → ℕ
-saiRefusal f m s =
+unfoldable pub saiLate : ℕ → ℕ → Sai → ℕ
+saiLate f m s =
     cond (s .use_pllsai)
     (firstOf (outsideOf 192000000 432000000 9 (roughOf f m (s .n .0)))
     (outsideOf 0 48000000 10 (roughOf f m (s .n .0) / pDividerOf (s .p))))
     0
 
 -- 11: PLLI2S used, its VCO outside 192 to 432 MHz
-unfoldable pub i2sRefusal : ℕ → ℕ → I2s → ℕ
-i2sRefusal f m i = cond (i .use_plli2s) (outsideOf 192000000 432000000 11 (roughOf f m (i .n .0))) 0
+unfoldable pub i2sLate : ℕ → ℕ → I2s → ℕ
+i2sLate f m i = cond (i .use_plli2s) (outsideOf 192000000 432000000 11 (roughOf f m (i .n .0))) 0
 
 -- several at once: the least number
 unfoldable pub limitsOf : CFGR → ℕ
-limitsOf c = firstOf (saiRefusal (inputOf (c .sources .hse)) (c .pll .m .0) (c .sai)) (i2sRefusal (inputOf (c .sources .hse)) (c .pll .m .0) (c .i2s))
+limitsOf c = firstOf (saiLate (inputOf (c .sources .hse)) (c .pll .m .0) (c .sai)) (i2sLate (inputOf (c .sources .hse)) (c .pll .m .0) (c .i2s))
 
 unfoldable pub limitedOf : CFGR → ℕ → Clocks → InternalRCCConfig → ℕ → Planned
 limitedOf c k x y n = cond (eqb n 0) (Ready c k x y) (Refused n k)

@@ -6,7 +6,7 @@ use Rattle.kinds.specs.Config.{inputOf}
 use Rattle.kinds.specs.Codes.{pDividerOf}
 use Rattle.kinds.specs.Table.{Outside, Refused}
 use Rattle.kinds.specs.declared.CFGR.{CFGR}
-use Rattle.configure.specs.Ways.{Seeks, NoneGood, Plans}
+use Rattle.configure.specs.Ways.{Seeks, NoneGood, Settles}
 use Rattle.plan.specs.Plan.{roughOf}
 
 -- floor(input/M) × N of a configuration as planned
@@ -34,4 +34,4 @@ pub data Late (d : CFGR) : ℕ → Type 0 where
 pub data PlanRefused (c : CFGR) : ℕ → Type 0 where
   limit : {n : ℕ} → Refused c n → PlanRefused c n
   search : Seeks c → NoneGood c → PlanRefused c 7
-  late : {d : CFGR} {k n : ℕ} → Plans c d k → Late d n → PlanRefused c n
+  late : {d : CFGR} {k n : ℕ} → Settles c d k → Late d n → PlanRefused c n

@@ -11,7 +11,7 @@ ghost use mathlib.Core.Path.{_≡_};
 ghost use Prim.Native.Nat.{_≤_};
 ghost use Rattle.kinds.specs.Limits.{outsideOf};
 ghost use Rattle.kinds.specs.Table.{Checked};
-ghost use Rattle.plan.specs.Plan.{roughOf, saiRefusal, i2sRefusal, limitsOf};
+ghost use Rattle.plan.specs.Plan.{roughOf, saiLate, i2sLate, limitsOf};
 
 // floor(input/M) × N: the input is not cut to a multiple of 16.
 fn rough(input: Hertz, m: Divider, n: Factor) -> u64
@@ -34,9 +34,9 @@ fn beyond(lo: u64, hi: u64, k: u8, x: u64) -> u8
     }
 }
 
-fn sai_refusal(input: Hertz, m: Divider, sai: Sai) -> u8
+fn sai_late(input: Hertz, m: Divider, sai: Sai) -> u8
     requires { ⌜ (input .0 ≤ 50000000) × (2 ≤ m .0) × (sai .n .0 ≤ 432) ⌝ }
-    ensures { λ r. ⌜ r ≡ saiRefusal (input .0) (m .0) sai ⌝ }
+    ensures { λ r. ⌜ r ≡ saiLate (input .0) (m .0) sai ⌝ }
 {
     let p = sai.p;
     let n = sai.n;
@@ -53,9 +53,9 @@ fn sai_refusal(input: Hertz, m: Divider, sai: Sai) -> u8
     }
 }
 
-fn i2s_refusal(input: Hertz, m: Divider, i2s: I2s) -> u8
+fn i2s_late(input: Hertz, m: Divider, i2s: I2s) -> u8
     requires { ⌜ (input .0 ≤ 50000000) × (2 ≤ m .0) × (i2s .n .0 ≤ 432) ⌝ }
-    ensures { λ r. ⌜ r ≡ i2sRefusal (input .0) (m .0) i2s ⌝ }
+    ensures { λ r. ⌜ r ≡ i2sLate (input .0) (m .0) i2s ⌝ }
 {
     let n = i2s.n;
     if i2s.use_plli2s {
@@ -77,5 +77,5 @@ pub(crate) fn limits(cfgr: CFGR) -> u8
     let sai = cfgr.sai;
     let i2s = cfgr.i2s;
     let input = kinds::input_of(hse);
-    first_of(sai_refusal(input, m, sai), i2s_refusal(input, m, i2s))
+    first_of(sai_late(input, m, sai), i2s_late(input, m, i2s))
 }

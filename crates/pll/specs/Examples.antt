@@ -1,6 +1,7 @@
 -- Document 01, "Examples on each side": its four examples of the search, and one of ours, a walk of 10,007 passes.
 use Prim.Native.Nat.{ℕ, _+_, _-_}
 use mathlib.Core.List.{List, [], _∷_}
+use Rattle.pll.specs.Outputs.{qLow, qHigh}
 use Rattle.pll.specs.declared.Window.{Window}
 use Rattle.pll.specs.declared.Window.the-variants.{Absent, Within}
 use Rattle.pll.specs.declared.Sought.the-variants.{Unasked, By}
@@ -11,9 +12,9 @@ use Rattle.pll.specs.declared.Found.the-variants.{Pair, Nothing}
 abbrev pub around : ℕ → Window
 around x = Within (record { 0 = x - 1 }) (record { 0 = x + 1 })
 
--- the Q window, 47,880,000 to 48,120,000
+-- the Q window
 abbrev pub usb : Window
-usb = Within (record { 0 = 47880000 }) (record { 0 = 48120000 })
+usb = Within (record { 0 = qLow }) (record { 0 = qHigh })
 
 pub record Asked : Type 0 where
   pub input : ℕ

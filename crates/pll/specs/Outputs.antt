@@ -9,6 +9,13 @@ use Rattle.pll.specs.Fixed.{vcoOf, outOf}
 unfoldable pub baseOf : ℕ → ℕ
 baseOf f = 16 * (f / 16)
 
+-- the ends of the Q window
+abbrev pub qLow : ℕ
+qLow = 47880000
+
+abbrev pub qHigh : ℕ
+qHigh = 48120000
+
 -- what the present M, N, P derive: the P output
 unfoldable pub pOutputOf : CFGR → ℕ
 pOutputOf c = outOf (vcoOf (inputOf (c .sources .hse)) (c .pll .n .0) (c .pll .m .0)) (pDividerOf (c .pll .p))

@@ -16,6 +16,11 @@ ghost use mathlib.Core.Path.{_≡_};
 ghost use Rattle.pll.specs.Fixed.{inside, outputOf};
 ghost use Rattle.pll.specs.Walk.{searchOf};
 
+// The ends of the Q window, which a 48 MHz clock lies in.
+pub const Q_LOW: u32 = 47880000;
+
+pub const Q_HIGH: u32 = 48120000;
+
 // A window that an output is wanted in, its ends included.
 pub enum Window {
     Absent,

@@ -9,7 +9,7 @@ use Rattle.kinds.specs.declared.Request.{Request}
 use Rattle.kinds.specs.declared.Request.the-variants.{Absent, At}
 use Rattle.pll.specs.Fixed.{vcoOf, outOf}
 use Rattle.pll.specs.Outputs.{baseOf}
-use Rattle.clocks.specs.Derive.{timclkOf, waitsOf, scaleOf}
+use Rattle.clocks.specs.Derive.{timclkOf, waitStatesOf, scaleOf}
 use Rattle.clocks.specs.declared.Clocks.{Clocks}
 use Rattle.startup.specs.Places.{SW, PPRE1, PPRE2, HPRE, PLLM, PLLN, PLLP, PLLSRC, VOS, LATENCY}
 use Rattle.startup.specs.Safe.{OverSet}
@@ -63,7 +63,7 @@ pub record Reads (x : Clocks) (f : List ℕ) : Type 0 where
   pub pclk2 : pclk2In (hertzOf (x .hse)) f ≡ x .pclk2 .0
   pub timclk1 : timclk1In (hertzOf (x .hse)) f ≡ x .timclk1 .0
   pub timclk2 : timclk2In (hertzOf (x .hse)) f ≡ x .timclk2 .0
-  pub latency : getD f LATENCY 0 ≡ waitsOf (x .sysclk .0)
+  pub latency : getD f LATENCY 0 ≡ waitStatesOf (x .sysclk .0)
 
 -- and, where the plan stores the PLL's fields: VOS is SYSCLK's scale, and above 180 MHz over-drive is on
 pub record Powered (x : Clocks) (f : List ℕ) : Type 0 where

@@ -7,24 +7,24 @@ use Rattle.plan.proofs.limits.limits.Tie as tie
 input-of-requires : tie.Need-input-of-requires
 input-of-requires c κs = search needs
 
-sai-refusal-requires : tie.Need-sai-refusal-requires
-sai-refusal-requires c κs = let k = c .before .before .before .before .before .before .pre in limits-ask _ k _ (c .input-of .ensures) (k .sai .n .high)
+sai-late-requires : tie.Need-sai-late-requires
+sai-late-requires c κs = let k = c .before .before .before .before .before .before .pre in limits-ask _ k _ (c .input-of .ensures) (k .sai .n .high)
 
-i2s-refusal-requires : tie.Need-i2s-refusal-requires
-i2s-refusal-requires c κs = let k = c .before .before .before .before .before .before .before .pre in limits-ask _ k _ (c .before .input-of .ensures) (k .i2s .n .high)
+i2s-late-requires : tie.Need-i2s-late-requires
+i2s-late-requires c κs = let k = c .before .before .before .before .before .before .before .pre in limits-ask _ k _ (c .before .input-of .ensures) (k .i2s .n .high)
 
 first-of-requires : tie.Need-first-of-requires
 first-of-requires c κs = search needs
 
 returns : tie.Need-returns
-returns c = limits-are _ (c .first-of .ensures) (c .before .before .sai-refusal .ensures) (c .before .i2s-refusal .ensures) (c .before .before .before .input-of .ensures)
+returns c = limits-are _ (c .first-of .ensures) (c .before .before .sai-late .ensures) (c .before .i2s-late .ensures) (c .before .before .before .input-of .ensures)
 
 pub limits-spec : {M : Type 1} → statement M
 limits-spec =
     tie.close
     (tie.spec
     input-of-requires
-    sai-refusal-requires
-    i2s-refusal-requires
+    sai-late-requires
+    i2s-late-requires
     first-of-requires
     returns)

@@ -1,8 +1,8 @@
--- `i2s_refusal` meets its contract: by its flag.
+-- `i2s_late` meets its contract: by its flag.
 use Rattle.plan.proofs.Planning.{i2s-on, i2s-off}
 use borrow.Author.Needs.{needs}
-use Rattle.plan.proofs.limits.i2s_refusal.Statement.{statement}
-use Rattle.plan.proofs.limits.i2s_refusal.Tie as tie
+use Rattle.plan.proofs.limits.i2s_late.Statement.{statement}
+use Rattle.plan.proofs.limits.i2s_late.Tie as tie
 
 rough-requires : tie.Need-rough-requires
 rough-requires c κs = search needs
@@ -16,5 +16,5 @@ returns c = i2s-on _ _ _ (c .beyond .ensures) (c .before .rough .ensures) (c .be
 returns-2 : tie.Need-returns-2
 returns-2 c = i2s-off _ _ _ (c .if1 .left)
 
-pub i2s-refusal-spec : {M : Type 1} → statement M
-i2s-refusal-spec = tie.close (tie.spec rough-requires beyond-requires returns returns-2)
+pub i2s-late-spec : {M : Type 1} → statement M
+i2s-late-spec = tie.close (tie.spec rough-requires beyond-requires returns returns-2)

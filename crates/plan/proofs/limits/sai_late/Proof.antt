@@ -1,11 +1,11 @@
--- `sai_refusal` meets its contract: by its flag; P is above 0.
+-- `sai_late` meets its contract: by its flag; P is above 0.
 use Rattle.plan.proofs.Planning.{sai-on, sai-off}
 use Rattle.pll.proofs.Settings.{p-range}
 use Prim.Native.Nat.{_≤_}
 use native.Mathlib.Omega.{arith}
 use borrow.Author.Needs.{needs}
-use Rattle.plan.proofs.limits.sai_refusal.Statement.{statement}
-use Rattle.plan.proofs.limits.sai_refusal.Tie as tie
+use Rattle.plan.proofs.limits.sai_late.Statement.{statement}
+use Rattle.plan.proofs.limits.sai_late.Tie as tie
 
 rough-requires : tie.Need-rough-requires
 rough-requires c κs = search needs
@@ -34,8 +34,8 @@ returns c = sai-on _ _ _ (c .first-of .ensures) (c .before .before .beyond .ensu
 returns-2 : tie.Need-returns-2
 returns-2 c = sai-off _ _ _ (c .if1 .left)
 
-pub sai-refusal-spec : {M : Type 1} → statement M
-sai-refusal-spec =
+pub sai-late-spec : {M : Type 1} → statement M
+sai-late-spec =
     tie.close
     (tie.spec
     rough-requires
