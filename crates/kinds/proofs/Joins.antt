@@ -5,10 +5,7 @@ use borrow.Author.Tests.{eq-eqb, ne-eqb}
 use Rattle.kinds.specs.Limits.{firstOf, hseRefusal}
 use Rattle.kinds.specs.Setters.{settingOf, withHse}
 use Rattle.kinds.specs.declared.CFGR.{CFGR}
-use Rattle.kinds.specs.Calls.{callOf}
 use Rattle.kinds.specs.declared.HSEClock.{HSEClock}
-use Rattle.kinds.specs.declared.Setting.{Setting}
-use Rattle.kinds.specs.declared.calls.Setter.{Setter}
 
 -- the first of two refusals, from the two
 pub firsts : {r a b d e : ℕ} → r ≡ firstOf a b → a ≡ d → b ≡ e → r ≡ firstOf d e
@@ -31,7 +28,3 @@ module _ (c : CFGR) {h k : HSEClock} {n : ℕ} (p : n ≡ hseRefusal h) (e : h �
 
   pub hse-kept : (n ≡ 0 → ⊥) → record { refusal = n; cfgr = c } ≡ settingOf (hseRefusal k) c (withHse c k)
   hse-kept q = kept c (withHse c h) p q ∙ rw e
-
--- a call by its value: what the setter that it names hands back
-pub called : (c : CFGR) {s t : Setter} {r : Setting} → s ≡ t → r ≡ callOf c t → r ≡ callOf c s
-called c p q = rw p q

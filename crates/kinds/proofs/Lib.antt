@@ -1,5 +1,3 @@
 -- Laws that belong to no one function.
 pub mod Joins
 pub mod Check
-pub mod Building
-pub mod Refusing

@@ -3,6 +3,4 @@ pub mod Config
 pub mod Codes
 pub mod Limits
 pub mod Setters
-pub mod Calls
 pub mod Table
-pub mod Built

@@ -1,6 +1,5 @@
 // What a clock request is made of: frequencies, dividers, choices, and the configuration that holds them.
 // Document 01, "Taken and left"; the names are those of rcc.rs where it has one.
-pub mod calls;
 pub mod codes;
 pub mod limits;
 mod setters;

@@ -1,10 +1,11 @@
 // Runs the list of all limits through the setters and the search: both ends of each, the numbers just past them, and the greatest.
+use calls::Setter;
+use calls::call;
 use kinds::CFGR;
 use kinds::Divider;
 use kinds::Factor;
 use kinds::HSEClockMode;
 use kinds::Hertz;
-use kinds::calls::Setter;
 use libc::STDOUT_FILENO;
 use pll::Found;
 use pll::Window;
@@ -56,7 +57,7 @@ fn number_of(which: u32, x: u32) -> u32 {
 }
 
 fn setter_number(which: u32, x: u32) -> u32 {
-    let set = CFGR::constrain().call(setter_of(which, x));
+    let set = call(CFGR::constrain(), setter_of(which, x));
     set.refusal as u32
 }
 

@@ -1,5 +1,4 @@
 -- Laws that belong to no one function.
-pub mod Lists
 pub mod Replying
 pub mod Planning
 pub mod Lining

@@ -3,10 +3,10 @@ use Prim.Native.Nat.{ℕ}
 use mathlib.Core.Path.{_≡_, refl, sym, _∙_}
 use mathlib.Core.List.{List}
 use Rattle.kinds.specs.Limits.{checkOf}
-use Rattle.kinds.specs.Calls.{callOf}
+use Rattle.calls.specs.Calls.{callOf}
 use Rattle.kinds.specs.declared.CFGR.{CFGR}
 use Rattle.kinds.specs.declared.Setting.{Setting}
-use Rattle.kinds.specs.declared.calls.Setter.{Setter}
+use Rattle.calls.specs.declared.Setter.{Setter}
 use Rattle.record.proofs.Exactly.{malformed-14}
 use Rattle.record.specs.declared.Fault.{Fault}
 use Rattle.record.specs.declared.Reading.{Reading}
@@ -17,11 +17,11 @@ use Rattle.pll.specs.declared.Window.{Window}
 use Rattle.pll.specs.declared.Found.{Found}
 use Rattle.pll.specs.declared.Outcome.{Outcome}
 use Rattle.pll.specs.declared.Outcome.the-variants.{Refused as OutputRefused, At as OutputAt}
-use Rattle.woolturret.specs.Answers.{numbersOf as foundNumbers}
-use Rattle.woolturret.specs.Numbers.{numbersOf}
+use Rattle.numbers.specs.Answers.{numbersOf as foundNumbers}
+use Rattle.numbers.specs.Numbers.{numbersOf}
 use Rattle.woolturret.specs.Replies.{Replied, checkReply, callReply, setReply, searchReply, Told}
-use Rattle.woolturret.specs.declared.setters.Named.{Named}
-use Rattle.woolturret.specs.declared.setters.Named.the-variants.{Unknown, Call}
+use Rattle.calls.specs.declared.named.Named.{Named}
+use Rattle.calls.specs.declared.named.Named.the-variants.{Unknown, Call}
 
 -- the check
 pub malformed-check : {x : Reading} {f : Fault} → x ≡ Malformed f → 14 ≡ checkReply x

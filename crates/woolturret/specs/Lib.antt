@@ -1,7 +1,4 @@
 -- What a caller in C must believe.
-pub mod Numbers
-pub mod Named
-pub mod Answers
 pub mod Replies
 pub mod Plans
 pub mod Lines

@@ -1,75 +1,23 @@
--- What the functions for pll_configure, calculate_clocks and plan answer, and what the lent numbers hold then.
+-- What the functions for pll_configure, calculate_clocks and plan answer, by what the record reads as.
+-- A malformed one: its number, and what is lent as it came, but for 0 passes.
 use Prim.Native.Nat.{ℕ}
-use mathlib.Core.Path.{_≡_}
-use mathlib.Core.List.{List, [], _∷_}
+use mathlib.Core.List.{List, []}
 use Rattle.configure.specs.Configure.{configuredOf}
-use Rattle.configure.specs.declared.Configured.{Configured}
-use Rattle.configure.specs.declared.Configured.the-variants.{Refused as NotConfigured, Ready as Configured'}
 use Rattle.clocks.specs.Derive.{derivedOf}
-use Rattle.clocks.specs.declared.Clocks.{Clocks}
-use Rattle.clocks.specs.declared.InternalRCCConfig.{InternalRCCConfig}
-use Rattle.clocks.specs.declared.Derived.{Derived}
-use Rattle.clocks.specs.declared.Derived.the-variants.{Refused as NotDerived, At}
 use Rattle.plan.specs.Plan.{planOf}
-use Rattle.plan.specs.declared.Planned.{Planned}
-use Rattle.plan.specs.declared.Planned.the-variants.{Refused as NotPlanned, Ready as Planned'}
 use Rattle.record.specs.Reading.{numberOf}
 use Rattle.record.specs.declared.Reading.{Reading}
 use Rattle.record.specs.declared.Reading.the-variants.{Config, Malformed}
-use Rattle.woolturret.specs.Numbers.{flagOf, askedHertz, numbersOf}
-
--- SYSCLK, HCLK, PCLK1, PCLK2, both timers; HPRE, PPRE1, PPRE2, wait states, scale, over-drive; 48 MHz valid, HSE, LSE, LSI (0 absent)
-unfoldable pub clockNumbers : Clocks → InternalRCCConfig → List ℕ
-clockNumbers x y =
-    x .sysclk .0 ∷ x .hclk .0 ∷ x .pclk1 .0 ∷ x .pclk2 .0 ∷ x .timclk1 .0 ∷ x .timclk2 .0
-    ∷ y .hpre ∷ y .ppre1 ∷ y .ppre2 ∷ y .«flash_waitstates» ∷ y .«vos_scale» ∷ flagOf (y .overdrive)
-    ∷ flagOf (x .«pll48clk_valid») ∷ askedHertz (x .hse) ∷ askedHertz (x .lse) ∷ askedHertz (x .lsi)
-    ∷ []
-
--- the number answered, the lent numbers as they are left, and the passes
-pub record Reply : Type 0 where
-  pub number : ℕ
-  pub config : List ℕ
-  pub clocks : List ℕ
-  pub passes : ℕ
-
-pub record Plans (y : Reply) (r : ℕ) (config clocks : List ℕ) (passes : ℕ) : Type 0 where
-  pub answer : r ≡ y .number
-  pub config-holds : config ≡ y .config
-  pub clocks-hold : clocks ≡ y .clocks
-  pub passes-hold : passes ≡ y .passes
-
--- refused, the lent numbers are as they came; the passes are those of the search wherever one ran
-abbrev pub plannedReply : Planned → List ℕ → List ℕ → Reply
-plannedReply (NotPlanned n k) config clocks = record { number = n; config = config; clocks = clocks; passes = k }
-plannedReply (Planned' c k x y) config clocks = record { number = 0; config = numbersOf c; clocks = clockNumbers x y; passes = k }
-
-abbrev pub planReply : Reading → List ℕ → List ℕ → Reply
-planReply (Malformed fault) config clocks = record { number = numberOf fault; config = config; clocks = clocks; passes = 0 }
-planReply (Config c) config clocks = plannedReply (planOf c) config clocks
-
--- pll_configure has no clocks, calculate_clocks neither a configuration nor passes
-pub record Configures (y : Reply) (r : ℕ) (config : List ℕ) (passes : ℕ) : Type 0 where
-  pub answer : r ≡ y .number
-  pub config-holds : config ≡ y .config
-  pub passes-hold : passes ≡ y .passes
-
-abbrev pub configuredReply : Configured → List ℕ → Reply
-configuredReply (NotConfigured n k) config = record { number = n; config = config; clocks = []; passes = k }
-configuredReply (Configured' c k) config = record { number = 0; config = numbersOf c; clocks = []; passes = k }
+use Rattle.numbers.specs.Plans.{Reply, configuredReply, derivedReply, plannedReply}
 
 abbrev pub configureReply : Reading → List ℕ → Reply
 configureReply (Malformed fault) config = record { number = numberOf fault; config = config; clocks = []; passes = 0 }
 configureReply (Config c) config = configuredReply (configuredOf c) config
 
-pub record Derives (y : Reply) (r : ℕ) (clocks : List ℕ) : Type 0 where
-  pub answer : r ≡ y .number
-  pub clocks-hold : clocks ≡ y .clocks
-
-abbrev pub derivedReply : Derived → List ℕ → Reply
-derivedReply (NotDerived n) clocks = record { number = n; config = []; clocks = clocks; passes = 0 }
-derivedReply (At x y) clocks = record { number = 0; config = []; clocks = clockNumbers x y; passes = 0 }
-
 abbrev pub deriveReply : Reading → List ℕ → Reply
 deriveReply (Malformed fault) clocks = record { number = numberOf fault; config = []; clocks = clocks; passes = 0 }
 deriveReply (Config c) clocks = derivedReply (derivedOf c) clocks
+
+abbrev pub planReply : Reading → List ℕ → List ℕ → Reply
+planReply (Malformed fault) config clocks = record { number = numberOf fault; config = config; clocks = clocks; passes = 0 }
+planReply (Config c) config clocks = plannedReply (planOf c) config clocks

@@ -3,7 +3,7 @@ use Prim.Native.Nat.{ℕ}
 use mathlib.Core.Path.{_≡_}
 use mathlib.Core.List.{List}
 use Rattle.kinds.specs.Limits.{checkOf}
-use Rattle.kinds.specs.Calls.{callOf}
+use Rattle.calls.specs.Calls.{callOf}
 use Rattle.kinds.specs.declared.CFGR.{CFGR}
 use Rattle.record.specs.Reading.{numberOf}
 use Rattle.record.specs.declared.Reading.{Reading}
@@ -13,10 +13,10 @@ use Rattle.pll.specs.Numbers.{outcomeNumberOf}
 use Rattle.pll.specs.declared.Outcome.{Outcome}
 use Rattle.pll.specs.declared.Outcome.the-variants.{Refused as OutputRefused, At as OutputAt}
 use Rattle.pll.specs.declared.Found.{Found}
-use Rattle.woolturret.specs.Answers.{numbersOf as foundNumbers}
-use Rattle.woolturret.specs.Numbers.{numbersOf}
-use Rattle.woolturret.specs.declared.setters.Named.{Named}
-use Rattle.woolturret.specs.declared.setters.Named.the-variants.{Unknown, Call}
+use Rattle.numbers.specs.Answers.{numbersOf as foundNumbers}
+use Rattle.numbers.specs.Numbers.{numbersOf}
+use Rattle.calls.specs.declared.named.Named.{Named}
+use Rattle.calls.specs.declared.named.Named.the-variants.{Unknown, Call}
 
 -- the number answered, and the lent numbers as they are left
 pub record Reply : Type 0 where

@@ -14,7 +14,7 @@ use Rattle.startup.specs.declared.Started.{Started}
 use Rattle.record.specs.Reading.{numberOf}
 use Rattle.record.specs.declared.Reading.{Reading}
 use Rattle.record.specs.declared.Reading.the-variants.{Config, Malformed}
-use Rattle.woolturret.specs.Plans.{clockNumbers}
+use Rattle.numbers.specs.Plans.{clockNumbers}
 use Rattle.woolturret.specs.declared.Report.{Report}
 
 -- the four numbers answered, and the lent file and clocks as they are left

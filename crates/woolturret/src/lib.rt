@@ -1,21 +1,19 @@
 // Functions for C: record bytes and numbers in, numbers out. include/woolturret.h declares them.
-mod answers;
-mod numbers;
-mod plans;
-mod setters;
 mod starts;
 
 use answer::put_answer;
+use calls::Named;
 use clocks::calculate_clocks;
 use configure::pll_configure;
 use kinds::CFGR;
 use kinds::Divider;
 use kinds::Factor;
 use kinds::Hertz;
+use numbers::answers;
+use numbers::plans;
 use plan::plan;
 use pll::Outcome;
 use record::Reading;
-use setters::Named;
 use startup::limit_refusal;
 use text::Placed;
 ghost use mathlib.Core.Path.{_≡_};
@@ -23,12 +21,13 @@ ghost use Rattle.record.specs.Reading.{readOf};
 ghost use Rattle.answer.specs.Answer.{answerLine};
 ghost use Rattle.pll.specs.Fixed.{outputOf};
 ghost use Rattle.pll.specs.Walk.{searchOf};
-ghost use Rattle.woolturret.specs.Answers.{windowOf};
+ghost use Rattle.numbers.specs.Answers.{windowOf};
 ghost use Rattle.woolturret.specs.Replies.{Replied, checkReply, setReply, callReply, searchReply, Told};
-ghost use Rattle.woolturret.specs.Plans.{Configures, configureReply, Derives, deriveReply, Plans, planReply};
+ghost use Rattle.numbers.specs.Plans.{Configures, Derives, Plans};
+ghost use Rattle.woolturret.specs.Plans.{configureReply, deriveReply, planReply};
 ghost use Rattle.woolturret.specs.Lines.{Lines};
 ghost use Rattle.woolturret.specs.Starts.{Starts, startReply};
-ghost use Rattle.woolturret.specs.Named.{namedOf};
+ghost use Rattle.calls.specs.Named.{namedOf};
 
 // The check of 1 to 6 of the configuration that a record holds: 0 where nothing is refused, 14 for a malformed record.
 #[no_mangle]
@@ -48,7 +47,7 @@ fn reply(cfgr: CFGR, call: Named, out: &mut [u32; 30]) -> u32
     match call {
         Named::Unknown => 14,
         Named::Call(setter) => {
-            let set = cfgr.call(setter);
+            let set = calls::call(cfgr, setter);
             let handed = set.cfgr;
             *out = numbers::numbers_of(handed);
             set.refusal as u32
@@ -70,7 +69,7 @@ pub extern "C" fn woolturret_set(
 {
     match record::read_record(bytes) {
         Reading::Malformed(_) => 14,
-        Reading::Config(cfgr) => reply(cfgr, setters::call_of(setter, a, b), out),
+        Reading::Config(cfgr) => reply(cfgr, calls::call_of(setter, a, b), out),
     }
 }
 

@@ -1,7 +1,7 @@
 // A start over lent numbers: the file taken and handed back, and what the start came to as numbers.
 use super::Report;
-use super::plans::clock_numbers;
 use kinds::CFGR;
+use numbers::plans::clock_numbers;
 use startup::Outcome;
 use startup::Started;
 use startup::freeze;

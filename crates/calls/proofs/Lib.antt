@@ -1,0 +1,4 @@
+-- Laws that belong to no one function.
+pub mod Lists
+pub mod Building
+pub mod Refusing

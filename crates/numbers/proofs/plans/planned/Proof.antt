@@ -1,0 +1,38 @@
+-- `plans::planned` meets its contract: from the answer and its numbers.
+use Rattle.numbers.proofs.Planning.{planned-ready}
+use borrow.Author.Needs.{needs}
+use Rattle.numbers.proofs.plans.planned.Statement.{statement}
+use Rattle.numbers.proofs.plans.planned.Tie as tie
+
+enum-known-answer : tie.Need-enum-known-answer
+enum-known-answer c = search needs
+
+cast-result : tie.Need-cast-result
+cast-result c = search needs
+
+enum-known-answer-2 : tie.Need-enum-known-answer-2
+enum-known-answer-2 c = search needs
+
+numbers-of-requires : tie.Need-numbers-of-requires
+numbers-of-requires c κs = search needs
+
+clock-numbers-requires : tie.Need-clock-numbers-requires
+clock-numbers-requires c κs = search needs
+
+returns : tie.Need-returns
+returns c = search needs
+
+returns-2 : tie.Need-returns-2
+returns-2 c = planned-ready _ _ (c .before .before .before .answer2 .given .1) (c .before .numbers-of .ensures) (c .clock-numbers .ensures)
+
+pub planned-spec : {M : Type 1} → statement M
+planned-spec =
+    tie.close
+    (tie.spec
+    enum-known-answer
+    cast-result
+    enum-known-answer-2
+    numbers-of-requires
+    clock-numbers-requires
+    returns
+    returns-2)
