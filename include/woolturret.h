@@ -15,11 +15,12 @@
  *  11 PLLI2S used, its VCO outside 192 to 432 MHz
  *  12 a wait not answered within the poll limit
  *  13 poll limit outside 1..65,535
- *  14 malformed request record; of woolturret_set also a setter or a code that there is not, of woolturret_start also a register
- *     file that is not 35 numbers
+ *  14 malformed request record: a breach of its layout, or any other length than 64 bytes, 0 too; of woolturret_set also a setter
+ *     or a code that there is not, of woolturret_start also a register file that is not 35 numbers
  * All ends are inclusive; of several numbers 13 is given first, then 14, then the least number; 12 comes as the waits come.
- * What can't be checked here is asked of the caller: a pointer points to as many elements as its declaration or the length beside
- * it says, and what is written overlaps neither what is read nor anything else that is written.
+ * What can't be checked here is asked of the caller: no pointer is NULL, each points to as many elements as its declaration or the
+ * length beside it says (with a length of 0 it is not looked at), and what is written overlaps neither what is read nor anything
+ * else that is written. Nothing is kept between calls: any number of threads may call, each with buffers of its own.
  */
 #ifndef WOOLTURRET_H
 #define WOOLTURRET_H
@@ -27,6 +28,9 @@
 #include <stdbool.h>
 #include <stddef.h>
 #include <stdint.h>
+
+/* Raised with every change of what a function here takes or answers. */
+#define WOOLTURRET_INTERFACE 1
 
 #ifdef __cplusplus
 extern "C" {
@@ -48,8 +52,7 @@ uint32_t woolturret_search(uint32_t input,
  * Answers 0 with the hertz in out, or 1 (input outside 1 to 50 MHz) or 6 (M, N or d outside its limits) with out as it was. */
 uint32_t woolturret_output(uint32_t input, uint32_t m, uint32_t n, uint32_t d, uint64_t *out);
 
-/* The check of 1 to 6 of the configuration that a request record holds: 0, 1 to 6, or 14.
- * bytes points to length bytes; any length but 64 is 14. */
+/* The check of 1 to 6 of the configuration that a request record holds: 0, 1 to 6, or 14. bytes points to length bytes. */
 uint32_t woolturret_check(const uint8_t *bytes, size_t length);
 
 /* One setter of the Rust called on the configuration that a request record holds; a and b are its arguments:
@@ -112,7 +115,8 @@ struct woolturret_started {
  *   23 LSEBYP, 24 LSEON;   25 LSION;   26 PLLSAIN, 27 PLLSAIP, 28 PLLSAIQ;   29 CK48MSEL (1 for PLLSAI);
  *   30 PLLI2SN, 31 PLLI2SR, 32 PLLI2SQ;   33 LATENCY (wait states), 34 the other bits of ACR.
  * PLLP, PLLSAIP and the MCO fields hold their codes as woolturret_set has them, HPRE and the PPREs as woolturret_derive; flags
- * are 0 or 1. It may hold anything before the start, and what no store names is left as it was.
+ * are 0 or 1. The codes are the model's: VOS and the MCO prescalers are coded otherwise in the chip's registers. The file may hold
+ * anything before the start, and what no store names is left as it was.
  *
  * The stores, divided by semicolons (a flag is stored as 1 unless said), and the waits, by number:
  *   HSION; wait 1 HSI; SW = HSI;
@@ -133,9 +137,11 @@ struct woolturret_started {
  * and before its wait, a number above that, so any from 24 on, cuts nothing. C makes a larger number than 255 a smaller one before
  * the call. An unanswered wait before the cut comes first.
  *
- * Answers refusal 0: file as its stores made it, clocks those of the plan, as woolturret_plan has them, also where it was cut (they hold
- * once it is done, so look at cut); or 12: file as the stores before that wait made it, clocks as they were, wait its number; or 1 to 7, 9 to 11, 13 or 14: file and
- * clocks as they were, cut, wait and polls 0. All of these are checked before anything is stored.
+ * Answers one of these:
+ *   0: file as its stores made it, clocks those of the plan, as woolturret_plan has them, also where it was cut (they hold once it
+ *      is done, so look at cut);
+ *   12: file as the stores before that wait made it, clocks as they were, wait its number;
+ *   1 to 7, 9 to 11, 13 or 14: file and clocks as they were, cut, wait and polls 0; all of these are checked before any store.
  * To go on after a cut or an unanswered wait call it again, with the same record and the file as it was left: all stores are made
  * anew, and once every wait is answered the file ends as that of a start that was never cut, however many tries there were. */
 struct woolturret_started woolturret_start(const uint8_t *bytes, size_t length,

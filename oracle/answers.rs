@@ -8,6 +8,7 @@ use crate::clocks::{self, Clocks, Plan};
 use crate::configuration::{self, at, Numbers};
 use crate::panics::{caught, Assertions};
 use crate::setters::{Call, HSE};
+use crate::ways;
 
 /// Setters of the requests, and the number that is the request's flag.
 const REQUEST_SETTERS: [(u32, usize); 4] =
@@ -125,6 +126,18 @@ pub fn frozen(rust: &Assertions, numbers: &Numbers, first: &File) -> Result<Froz
 /// A whole plan of a configuration within its limits, or 7, 9, 10 or 11.
 pub fn planned(rust: &Assertions, numbers: &Numbers) -> Result<Plan, u32> {
     frozen(rust, numbers, &[0; PLACES]).map(|frozen| frozen.plan)
+}
+
+/// The plan of a configuration that was checked, or its refusal, and the passes of the search that
+/// runs for it.
+pub fn plan_and_passes(
+    rust: &Assertions,
+    checked: &Result<Numbers, u32>,
+) -> (Result<Plan, u32>, u32) {
+    match checked {
+        Ok(numbers) => (planned(rust, numbers), ways::passes(numbers)),
+        Err(number) => (Err(*number), 0),
+    }
 }
 
 /// The plan of a record, or its refusal.

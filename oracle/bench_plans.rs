@@ -12,11 +12,15 @@ use std::time::Instant;
 use crate::configuration::RECORD;
 use crate::fleet::{self, Mixture};
 use crate::library;
+use crate::lines::MOST;
 use crate::panics::{self, Assertions};
 
 const RECORDS: u64 = 200_000;
 const SEED: u64 = 1;
 const TIMINGS: usize = 9;
+
+/// The records of the files by which the program's time is seen to grow.
+const SIZES: [usize; 5] = [0, 1_000, 10_000, 100_000, 1_000_000];
 
 /// How much faster we are depends on how many records make the Rust search: so not only a fleet
 /// is timed.
@@ -43,7 +47,33 @@ pub fn run(folder: &Path, planner: &[String]) -> Result<bool> {
             same &= equal;
         }
     }
+    let all = fleet::records(&assertions, fleet::FLEET, MOST as u64, SEED);
+    grow(folder, &all, planner)?;
     Ok(same)
+}
+
+/// What the program takes for the first records of a fleet, as the file grows to all of them: the
+/// files by turns, so that what else the machine does meets all alike.
+fn grow(folder: &Path, all: &[u8], planner: &[String]) -> Result<()> {
+    let files = SIZES.map(|records| folder.join(format!("first {records}.records")));
+    for (file, records) in files.iter().zip(SIZES) {
+        fs::write(file, &all[..records * RECORD])?;
+    }
+    let mut timings = [[0.0; TIMINGS]; SIZES.len()];
+    for turn in 0..TIMINGS {
+        for (file, timing) in files.iter().zip(&mut timings) {
+            timing[turn] = time(planner, file, &file.with_extension("lines"))?;
+        }
+    }
+    let seconds = timings.map(least);
+    let each = |place: usize| 1e9 * (seconds[place] - seconds[0]) / SIZES[place] as f64;
+    say!("the program as the file grows: no record {:.3} ms", 1e3 * seconds[0]);
+    for (place, records) in SIZES.into_iter().enumerate().skip(1) {
+        let (ms, each) = (1e3 * seconds[place], each(place));
+        say!("{records:8} records {ms:8.3} ms, on top of no record {each:.0} ns each");
+    }
+    say!("one of 1000000 records over one of 10000: {:.3}", each(4) / each(2));
+    Ok(())
 }
 
 fn is_accepted(record: &&[u8]) -> bool {

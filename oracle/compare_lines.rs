@@ -1,12 +1,13 @@
 //! Comparison 8: the program's line for any bytes, against the line that the host
-//! writes from the Rust's plan; the rest of the lent buffer stays as it was.
+//! writes from the Rust's plan; the rest of the lent buffer stays as it was, and so does
+//! what is on either side of it.
 
 use crate::answers;
 use crate::boundary_records;
 use crate::boundary_requests;
-use crate::clocks;
+use crate::clocks::Plan;
 use crate::configuration;
-use crate::library::{self, LINE, UNTOUCHED_BYTE};
+use crate::library::{self, Lined};
 use crate::records;
 use crate::requests::Requests;
 use crate::rows;
@@ -45,20 +46,22 @@ pub fn run(run: &mut Run, requests: &Requests) -> u64 {
     table.total
 }
 
+/// Holds the line of a record against that of its plan; answers its length.
+pub fn hold(run: &mut Run, record: &[u8], plan: &Result<Plan, u32>) -> u32 {
+    let (ours, expected) = (library::line(record), library::lined(plan));
+    if ours != expected {
+        let shown = |(length, out): Lined| (length, out.escape_ascii().to_string());
+        let what = || format!("line of the record {record:02x?}");
+        run.differences.compare(shown(ours), shown(expected), what);
+    }
+    ours.0
+}
+
 impl Lines<'_> {
     fn compare(&mut self, record: &[u8]) {
-        let ours = library::line(record);
-        self.lengths = (self.lengths.0.min(ours.0), self.lengths.1.max(ours.0));
         let plan = answers::plan_of(&self.run.assertions, record);
+        let length = hold(self.run, record, &plan);
+        self.lengths = (self.lengths.0.min(length), self.lengths.1.max(length));
         self.table.count(&[rows::refusal(plan.err().unwrap_or(0))]);
-        let line = clocks::line(&plan);
-        let mut expected = [UNTOUCHED_BYTE; LINE];
-        expected[..line.len()].copy_from_slice(line.as_bytes());
-        let shown = |(length, out): (u32, [u8; LINE])| (length, out.escape_ascii().to_string());
-        let what = || format!("line of the record {record:02x?}");
-        if ours != (line.len() as u32, expected) {
-            let expected = shown((line.len() as u32, expected));
-            self.run.differences.compare(shown(ours), expected, what);
-        }
     }
 }

@@ -3,9 +3,9 @@
 
 use crate::answers;
 use crate::boundary_requests;
-use crate::clocks::{self, Clocks, Plan};
+use crate::clocks::{self, Plan};
 use crate::configuration::{self, at, Numbers};
-use crate::library::{self, UNTOUCHED};
+use crate::library;
 use crate::requests::Requests;
 use crate::rows;
 use crate::run::Run;
@@ -41,34 +41,25 @@ pub fn run(run: &mut Run, requests: &Requests) -> u64 {
     table.total
 }
 
+/// Holds the plan of a record against the one expected.
+pub fn hold(run: &mut Run, record: &[u8], plan: &Result<Plan, u32>, passes: u32) {
+    let what = || format!("plan of the record {record:02x?}");
+    run.differences.compare(library::plan(record), library::planned(plan, passes), what);
+}
+
 impl Plans<'_> {
     fn compare(&mut self, record: &[u8]) {
-        let ours = library::plan(record);
-        let expected = match answers::checked(&self.run.assertions, record) {
-            Ok(numbers) => self.expected(&numbers),
-            Err(number) => {
-                self.table.count(&[rows::refusal(number)]);
-                (number, [UNTOUCHED; 30], [UNTOUCHED; 16], 0)
+        let checked = answers::checked(&self.run.assertions, record);
+        let (plan, passes) = answers::plan_and_passes(&self.run.assertions, &checked);
+        match (&checked, &plan) {
+            (Ok(numbers), Ok(plan)) => self.look_at(numbers, plan),
+            (Ok(numbers), Err(number)) => {
+                let of_way = rows::of_way(numbers, *number != 7);
+                self.table.count(&[rows::refusal(*number), of_way]);
             }
-        };
-        let what = || format!("plan of the record {record:02x?}");
-        self.run.differences.compare(ours, expected, what);
-    }
-
-    /// The answer for a configuration within its limits; passes are written in any case.
-    fn expected(&mut self, numbers: &Numbers) -> (u32, Numbers, Clocks, u32) {
-        let passes = ways::passes(numbers);
-        match answers::planned(&self.run.assertions, numbers) {
-            Ok(plan) => {
-                self.look_at(numbers, &plan);
-                (0, plan.0, plan.1, passes)
-            }
-            Err(number) => {
-                let of_way = rows::of_way(numbers, number != 7);
-                self.table.count(&[rows::refusal(number), of_way]);
-                (number, [UNTOUCHED; 30], [UNTOUCHED; 16], passes)
-            }
+            (Err(number), _) => self.table.count(&[rows::refusal(*number)]),
         }
+        hold(self.run, record, &plan, passes);
     }
 
     /// Counts a plan under its rows, and where it grants more than was asked.

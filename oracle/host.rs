@@ -16,6 +16,7 @@ mod cases;
 mod clocks;
 mod compare_checks;
 mod compare_configures;
+mod compare_damaged;
 mod compare_derives;
 mod compare_lines;
 mod compare_outputs;
@@ -24,6 +25,7 @@ mod compare_searches;
 mod compare_setters;
 mod compare_starts;
 mod configuration;
+mod damage;
 mod fleet;
 mod library;
 mod lines;
@@ -51,15 +53,19 @@ use std::io::{self, Read, Write};
 use std::path::Path;
 use std::process::ExitCode;
 
+use damage::Damage;
 use panics::Assertions;
+use random::Random;
 use requests::Requests;
 use run::Run;
 
 const USAGE: &str = "usage: host WORDS
   compare COUNT SEED          the library beside the Rust, but for starts
   starts COUNT SEED           starts beside the Rust's
+  damage COUNT SEED           damaged records and random bytes
   sample FILE                 the records of the gate's sample
   fleet COUNT SEED FILE       the records of a fleet
+  damaged COUNT SEED FILE     damaged records and a short tail
   lines                       the Rust's lines for the records of standard input
   bench FOLDER PLANNER..      times, PLANNER being the words that start the program
   plans                       the program over the Rust, to be timed";
@@ -71,8 +77,10 @@ fn main() -> ExitCode {
     let done = match (first.as_slice(), number(1), number(2)) {
         (["compare", _, _], Some(count), Some(seed)) => Ok(compare(count, seed)),
         (["starts", _, _], Some(count), Some(seed)) => Ok(starts(count, seed)),
+        (["damage", _, _], Some(count), Some(seed)) => Ok(damage(count, seed)),
         (["sample", file], ..) => sample(file),
         (["fleet", _, _, file], Some(count), Some(seed)) => fleet(count, seed, file),
+        (["damaged", _, _, file], Some(count), Some(seed)) => damaged(count, seed, file),
         (["lines"], ..) => lines(),
         (["bench", folder, _, ..], ..) => bench(Path::new(folder), &words[2..]),
         (["plans"], ..) => rust_program::run().map(|()| true),
@@ -141,6 +149,14 @@ fn starts(count: u64, seed: u64) -> bool {
     ended(run, seed, format_args!("{starts} starts"))
 }
 
+/// `count` damaged records, each planned and written as a line; answers whether all were equal.
+fn damage(count: u64, seed: u64) -> bool {
+    let run = &mut begun(count, seed);
+    let damage = &Damage::new(&run.assertions, seed);
+    let records = compare_damaged::run(run, damage);
+    ended(run, seed, format_args!("{records} damaged records"))
+}
+
 fn sample(file: &str) -> io::Result<bool> {
     panics::install();
     match sample::records(&Assertions::of_the_rust()) {
@@ -156,6 +172,12 @@ fn fleet(count: u64, seed: u64, file: &str) -> io::Result<bool> {
     panics::install();
     let records = fleet::records(&Assertions::of_the_rust(), fleet::FLEET, count, seed);
     fs::write(file, records).map(|()| true)
+}
+
+fn damaged(count: u64, seed: u64, file: &str) -> io::Result<bool> {
+    panics::install();
+    let damage = Damage::new(&Assertions::of_the_rust(), seed);
+    fs::write(file, damage.file(count, &mut Random::new(seed))).map(|()| true)
 }
 
 fn lines() -> io::Result<bool> {

@@ -1,7 +1,7 @@
 //! The C functions of the static library, declared once, behind safe functions
 //! that also notice an answer written where none belongs.
 
-use crate::clocks::Clocks;
+use crate::clocks::{self, Clocks, Plan};
 use crate::configuration::Numbers;
 
 /// What an answer's numbers hold before a call, to see which are written.
@@ -14,7 +14,16 @@ pub const UNTOUCHED_BYTE: u8 = 0xA5;
 /// The longest line: `ok`, 14 numbers of ten digits with a space before each, a newline.
 pub const LINE: usize = 157;
 
+/// Bytes on either side of the buffer that a line is written to: nobody lent them.
+const GUARD: usize = 64;
+
 pub type Window = Option<(u32, u32)>;
+
+/// The refusal, the configuration as planned, its clocks, and the passes.
+pub type Planned = (u32, Numbers, Clocks, u32);
+
+/// The length of a line, and the buffer that it stands in between its guards.
+pub type Lined = (u32, [u8; GUARD + LINE + GUARD]);
 
 /// What a start came to, as the library hands it back.
 #[repr(C)]
@@ -147,8 +156,7 @@ pub fn derive(record: &[u8]) -> (u32, Clocks) {
     (answer, clocks)
 }
 
-/// The refusal, the configuration as planned, its clocks, and the passes.
-pub fn plan(record: &[u8]) -> (u32, Numbers, Clocks, u32) {
+pub fn plan(record: &[u8]) -> Planned {
     let (mut config, mut clocks, mut passes) = ([UNTOUCHED; 30], [UNTOUCHED; 16], UNTOUCHED);
     // SAFETY: pointer and length are those of one slice, which is only read, and
     // `config`, `clocks` and `passes` are as long as the function writes.
@@ -164,13 +172,29 @@ pub fn plan(record: &[u8]) -> (u32, Numbers, Clocks, u32) {
     (answer, config, clocks, passes)
 }
 
-/// The length of the line, and the buffer that it stands in.
-pub fn line(record: &[u8]) -> (u32, [u8; LINE]) {
-    let mut out = [UNTOUCHED_BYTE; LINE];
+/// What `plan` must answer for a plan: refused, nothing is written but the passes.
+pub fn planned(plan: &Result<Plan, u32>, passes: u32) -> Planned {
+    match plan {
+        Ok((config, clocks)) => (0, *config, *clocks, passes),
+        Err(number) => (*number, [UNTOUCHED; 30], [UNTOUCHED; 16], passes),
+    }
+}
+
+pub fn line(record: &[u8]) -> Lined {
+    let mut out = [UNTOUCHED_BYTE; GUARD + LINE + GUARD];
+    let lent = &mut out[GUARD..GUARD + LINE];
     // SAFETY: pointer and length are those of one slice, which is only read, and
-    // `out` is as long as the function writes.
-    let answer = unsafe { c::woolturret_line(record.as_ptr(), record.len(), out.as_mut_ptr()) };
+    // `lent` is as long as the function writes.
+    let answer = unsafe { c::woolturret_line(record.as_ptr(), record.len(), lent.as_mut_ptr()) };
     (answer, out)
+}
+
+/// What `line` must answer for a plan: nothing is written but the line.
+pub fn lined(plan: &Result<Plan, u32>) -> Lined {
+    let line = clocks::line(plan);
+    let mut out = [UNTOUCHED_BYTE; GUARD + LINE + GUARD];
+    out[GUARD..GUARD + line.len()].copy_from_slice(line.as_bytes());
+    (line.len() as u32, out)
 }
 
 /// What the start came to, the file as it left it, and the clocks.

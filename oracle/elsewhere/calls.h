@@ -6,7 +6,7 @@
 #include "woolturret.h"
 
 enum { SEARCH = 1, CHECK, SET, OUTPUT, CONFIGURE, DERIVE, PLAN, LINE, START };
-enum { MOST_BYTES = 256, MOST_OUT = 30, MOST_CLOCKS = 16, MOST_TEXT = 157, MOST_PLACES = 64, MOST_ANSWERS = 8 * 65535 };
+enum { MOST_BYTES = 256, MOST_OUT = 30, MOST_CLOCKS = 16, MOST_TEXT = 157, BEYOND = 71, MOST_PLACES = 64, MOST_ANSWERS = 8 * 65535 };
 
 /* What a caller lends: it goes there and comes back, so that what the library leaves alone is left alone here. */
 struct lent {
@@ -15,6 +15,7 @@ struct lent {
     uint32_t clocks[MOST_CLOCKS];
     uint32_t passes;
     uint8_t text[MOST_TEXT];
+    uint8_t beyond[BEYOND]; /* lent by no call */
 };
 
 struct call {

@@ -7,6 +7,9 @@
 #include <unistd.h>
 #include "calls.h"
 
+/* What stands where nothing is lent. */
+enum { UNLENT = 0x5A };
+
 static int to_server = -1;
 static int from_server = -1;
 
@@ -63,6 +66,16 @@ static struct reply ask(const struct call *c)
     return r;
 }
 
+/* A call that lends only what stands in struct lent from one place up to another: the rest must come back as it went. */
+static struct reply ask_within(const struct call *c, size_t from, size_t to)
+{
+    struct reply r = ask(c);
+    const char *went = (const char *)&c->lent, *came = (const char *)&r.lent;
+    if (memcmp(went, came, from) != 0 || memcmp(went + to, came + to, sizeof r.lent - to) != 0)
+        stop("it wrote beside what was lent");
+    return r;
+}
+
 /* Bytes past the first MOST_BYTES stay here: of a record that is too long the library reads none. */
 static void put_bytes(struct call *c, const uint8_t *bytes, size_t length)
 {
@@ -112,10 +125,11 @@ static uint32_t ask_with_lent(uint32_t function, const uint8_t *bytes, size_t le
 {
     struct call c = {.function = function};
     put_bytes(&c, bytes, length);
+    memset(&c.lent, UNLENT, sizeof c.lent);
     if (config) memcpy(c.lent.out, config, sizeof c.lent.out);
     if (clocks) memcpy(c.lent.clocks, clocks, sizeof c.lent.clocks);
     if (passes) c.lent.passes = *passes;
-    struct reply r = ask(&c);
+    struct reply r = ask_within(&c, offsetof(struct lent, out), offsetof(struct lent, text));
     if (config) memcpy(config, r.lent.out, sizeof r.lent.out);
     if (clocks) memcpy(clocks, r.lent.clocks, sizeof r.lent.clocks);
     if (passes) *passes = r.lent.passes;
@@ -141,8 +155,9 @@ uint32_t woolturret_line(const uint8_t *bytes, size_t length, uint8_t out[157])
 {
     struct call c = {.function = LINE};
     put_bytes(&c, bytes, length);
+    memset(&c.lent, UNLENT, sizeof c.lent);
     memcpy(c.lent.text, out, sizeof c.lent.text);
-    struct reply r = ask(&c);
+    struct reply r = ask_within(&c, offsetof(struct lent, text), offsetof(struct lent, beyond));
     memcpy(out, r.lent.text, sizeof r.lent.text);
     return r.answer;
 }

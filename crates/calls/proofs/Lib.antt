@@ -2,3 +2,4 @@
 pub mod Lists
 pub mod Building
 pub mod Refusing
+pub mod Codes

@@ -9,7 +9,7 @@ use lib.Seq.{take-append-le, drop-append-le, drop-append-add}
 use Rattle.record.specs.Reading.{defaultRecord}
 use Rattle.answer.specs.Answer.{answerLine, defaultLine}
 use Rattle.answer.proofs.Default.{default-line}
-use Rattle.planner.specs.Output.{linesOf, tailOf, textOf, together, textsOf, WholeRecords}
+use Rattle.planner.specs.Output.{linesOf, tailOf, textOf, outputOf, together, textsOf, WholeRecords}
 
 -- the records of the first piece
 in-first : (a b : List ℕ) (k : ℕ) → 64 * suc k ≤ length a → take 64 (drop (64 * k) (a ++ b)) ≡ take 64 (drop (64 * k) a)
@@ -45,6 +45,10 @@ pub pieces : (ps : List (List ℕ)) (last : List ℕ) → WholeRecords ps → te
 pieces [] last w = refl
 pieces (p ∷ ps) last w =
     rw (append-assoc p (together ps) last) (joined p (together ps ++ last) (w .0) ∙ rw (pieces ps last (w .1)) (sym (append-assoc (textOf p) (textsOf ps) (textOf last))))
+
+-- so what is written, piece by piece, of up to 1,000,000 records is the output of the whole input
+pub whole-input : (b : List ℕ) (ps : List (List ℕ)) (last : List ℕ) → WholeRecords ps → together ps ++ last ≡ take 64000000 b → textsOf ps ++ textOf last ≡ outputOf b
+whole-input b ps last w e = sym (pieces ps last w) ∙ ap textOf e
 
 -- document 01's whole output for the record of the Rust's defaults
 pub whole-output : textOf defaultRecord ≡ defaultLine

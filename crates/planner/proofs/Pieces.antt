@@ -1,11 +1,11 @@
 -- The text of a piece of input, record by record.
 use Prim.Native.Nat.{ℕ, zero, suc, _+_, _*_, _/_, _%_, _≤_, _<_}
-use mathlib.Core.Path.{_≡_, refl, ap, _∙_}
+use mathlib.Core.Path.{_≡_, refl, sym, ap, _∙_, subst}
 use mathlib.Core.List.{List, _++_, append-nil}
 use native.Mathlib.Omega.{arith}
 use native.Mathlib.Numerals.{add-one}
 use lib.ListN.{length, take, drop, length-take}
-use lib.Seq.{take-at}
+use lib.Seq.{take-at, length-take-le}
 use Rattle.text.specs.Line.{noLine}
 use Rattle.text.specs.Placing.{Wrote, Placing}
 use Rattle.text.specs.declared.Placed.{Placed}
@@ -13,7 +13,7 @@ use Rattle.text.specs.declared.Placed.the-variants.{Next, NoRoom}
 use Rattle.text.proofs.Writing as writing
 use Rattle.answer.specs.Answer.{answerLine}
 use Rattle.answer.proofs.Lines.{another-length}
-use Rattle.planner.specs.Output.{linesOf, tailOf, textOf, Filled, Begins}
+use Rattle.planner.specs.Output.{linesOf, tailOf, textOf, Filled, Begins, Holds}
 
 -- a line that was put
 pub filled : {s x t : List ℕ} {at most n : ℕ} {r : Placed} → Placing s at x most t r → r ≡ Next n → Filled s at x most t n
@@ -56,3 +56,7 @@ begins {s} {x} {t} {n} w h = record {
   inside = omega (arith, writing.same w);
   is = ap (take n) (writing.stands w (omega (arith, w .ends))) ∙ take-at x (drop n s) n (omega (arith, w .ends));
 }
+
+-- which is as long as what was put
+pub holds : {t x : List ℕ} {n : ℕ} → Begins t n x → Holds t x
+holds {t} {x} {n} b = subst (λ (k : ℕ). Begins t k x) (sym (length-take-le n t (b .inside)) ∙ ap length (b .is)) b

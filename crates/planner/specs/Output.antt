@@ -47,3 +47,7 @@ pub record Filled (s : List ℕ) (at : ℕ) (text : List ℕ) (most : ℕ) (t : 
 pub record Begins (t : List ℕ) (n : ℕ) (text : List ℕ) : Type 0 where
   pub inside : n ≤ length t
   pub is : take n t ≡ text
+
+-- a buffer begins with the text
+abbrev pub Holds : List ℕ → List ℕ → Type 0
+Holds t text = Begins t (length text) text

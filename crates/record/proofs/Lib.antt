@@ -4,3 +4,4 @@ pub mod First
 pub mod Kept
 pub mod Exactly
 pub mod Defaults
+pub mod Codes

@@ -98,7 +98,7 @@ module _ (c d : CFGR) (k : ℕ) (x : Clocks) (y : InternalRCCConfig) (p : planOf
 
   module _ (f : List ℕ) (lim : ℕ) (xs : List ℕ) (cut : ℕ) where
     -- within its limits a start is the walk of the list
-    is-walk : Between 1 65535 lim → startOf c f lim xs cut ≡ startedOf x y (walk lim (opsOf d y) cut xs f)
+    pub is-walk : Between 1 65535 lim → startOf c f lim xs cut ≡ startedOf x y (walk lim (opsOf d y) cut xs f)
     is-walk b = from (startOf c f lim xs cut) (start-view c f lim xs cut)
       where
         same : (a : CFGR) (t : Clocks) (v : InternalRCCConfig) → a ≡ d → t ≡ x → v ≡ y

@@ -17,4 +17,5 @@ pub mod Back
 pub mod View
 pub mod Demands
 pub mod Refusals
+pub mod Ends
 pub mod Examples

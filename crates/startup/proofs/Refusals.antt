@@ -84,6 +84,22 @@ module _ (c : CFGR) (f : List ℕ) (lim : ℕ) (xs : List ℕ) (cut : ℕ) where
       back r (not-planned h p) b e = sym (ap (λ (q : Planned). planNumber q) p) ∙ e
       back r (ran h p) b e = absurd (z (sym e ∙ ap (λ (q : Planned). planNumber q) p))
 
+  -- none is above 13: 14 is the record's
+  pub start-gives-only : numberOf (startOf c f lim xs cut .outcome) ≤ 13
+  start-gives-only = from (startOf c f lim xs cut) (start-view c f lim xs cut)
+    where
+      walked : (x : Clocks) (y : InternalRCCConfig) (e : Ending) → numberOf (outcomeOf x y e) ≤ 13
+      walked x y e = by (walk-number x y e)
+        where
+          by : (numberOf (outcomeOf x y e) ≡ 0) ⊎ (numberOf (outcomeOf x y e) ≡ 12) → numberOf (outcomeOf x y e) ≤ 13
+          by (inl h) = omega arith
+          by (inr h) = omega arith
+
+      from : (r : Started) → StartView c f lim xs cut r → numberOf (r .outcome) ≤ 13
+      from r (bad-limit o) = omega arith
+      from r (not-planned {n = n} {k = k} b p) = let h = plan-gives c n k p in omega arith
+      from r (ran {d = d} {x = x} {y = y} b p) = walked x y (walk lim (opsOf d y) cut xs f .ending)
+
   -- refused otherwise than by 12: the file as it came, and no poll
   pub refused-stores-nothing : (numberOf (startOf c f lim xs cut .outcome) ≡ 0 → ⊥) → (numberOf (startOf c f lim xs cut .outcome) ≡ 12 → ⊥)
       → (startOf c f lim xs cut .file ≡ f) × (startOf c f lim xs cut .polls ≡ 0)

@@ -38,6 +38,15 @@ pub record Silent (lim : ℕ) (os : List Op) (cut : ℕ) (xs : List ℕ) (k : �
   pub answered : Answers lim done xs left
   pub silent : polledOf lim left .ready ≡ false
 
+-- the cut is reached: some first part of the list has as many stores as the cut says, and its waits are answered
+pub record Reached (lim : ℕ) (os : List Op) (cut : ℕ) (xs : List ℕ) : Type 0 where
+  pub done : List Op
+  pub rest : List Op
+  pub left : List ℕ
+  pub is : os ≡ done ++ rest
+  pub made : length (storesOf done) ≡ cut
+  pub answered : Answers lim done xs left
+
 -- what a start of an accepted plan comes to, x being its clocks, y its field codes and os its list: refused by its limit with nothing stored, or walked,
 -- with no more polls than the limit for each wait
 pub data Comes (x : Clocks) (y : InternalRCCConfig) (os : List Op) (f : List ℕ) (lim cut : ℕ) : Started → Type 0 where

@@ -11,7 +11,7 @@ use machine::Machine;
 use machine::begun;
 use plan::Planned;
 use plan::plan;
-use registers::PLACES;
+pub use registers::PLACES;
 ghost use mathlib.Core.Path.{_≡_};
 ghost use Prim.Native.Nat.{_≤_};
 ghost use Rattle.plan.specs.Plan.{planOf};

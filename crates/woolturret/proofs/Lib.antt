@@ -5,3 +5,4 @@ pub mod Lining
 pub mod Copying
 pub mod Starting
 pub mod Untouched
+pub mod Ordered

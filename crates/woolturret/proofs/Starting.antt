@@ -5,6 +5,7 @@ use mathlib.Core.List.{List}
 use lib.ListN.{length}
 use borrow.Author.Tests.{eq-eqb, ne-eqb}
 use Rattle.kinds.specs.declared.CFGR.{CFGR}
+use Rattle.startup.specs.Places.{PLACES}
 use Rattle.startup.specs.Start.{limitOf, startOf}
 use Rattle.startup.specs.declared.Started.{Started}
 use Rattle.record.specs.declared.Fault.{Fault}
@@ -20,11 +21,11 @@ nothing-written file clocks e = record { answer = e; file-holds = refl; clocks-h
 
 -- ---- by the places of the file
 module _ (c : CFGR) {file : List ℕ} (lim : ℕ) (xs : List ℕ) (cut : ℕ) (clocks : List ℕ) where
-  pub placed-35 : {f : List ℕ} {s : Started} {r : Report} {l m : List ℕ} → length file ≡ 35 → f ≡ file → s ≡ startOf c f lim xs cut → Starts (startedReply s clocks) r l m → Starts (placedReply c file lim xs cut clocks) r l m
+  pub placed-whole : {f : List ℕ} {s : Started} {r : Report} {l m : List ℕ} → length file ≡ PLACES → f ≡ file → s ≡ startOf c f lim xs cut → Starts (startedReply s clocks) r l m → Starts (placedReply c file lim xs cut clocks) r l m
   unfolding placedReply
-  placed-35 h e p w = rw (eq-eqb _ _ h, ← e, ← p) w
+  placed-whole h e p w = rw (eq-eqb _ _ h, ← e, ← p) w
 
-  pub placed-else : {r : Report} → (length file ≡ 35 → ⊥) → r ≡ refusedReport 14 → Starts (placedReply c file lim xs cut clocks) r file clocks
+  pub placed-else : {r : Report} → (length file ≡ PLACES → ⊥) → r ≡ refusedReport 14 → Starts (placedReply c file lim xs cut clocks) r file clocks
   unfolding placedReply
   placed-else h p = rw (ne-eqb _ _ h) (nothing-written file clocks p)
 

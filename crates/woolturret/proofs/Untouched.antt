@@ -8,6 +8,7 @@ use lib.ListN.{length}
 use Rattle.kinds.specs.declared.CFGR.{CFGR}
 use Rattle.clocks.specs.declared.Clocks.{Clocks}
 use Rattle.clocks.specs.declared.InternalRCCConfig.{InternalRCCConfig}
+use Rattle.startup.specs.Places.{PLACES}
 use Rattle.startup.specs.Order.{opsOf}
 use Rattle.startup.specs.Start.{Ending, at-end, at-cut, at-wait, Walked, walk, outcomeOf, startedOf, limitOf, startOf}
 use Rattle.startup.specs.declared.Started.{Started}
@@ -41,7 +42,7 @@ module _ (file : List ℕ) (lim : ℕ) (xs : List ℕ) (cut : ℕ) (clocks : Lis
   of-reading : (z : Reading) → Untouched file clocks (readReply z file lim xs cut clocks)
   unfolding placedReply
   of-reading (Malformed fault) a b = refl
-  of-reading (Config c) a b = of-places c (eqb (length file) 35) a b
+  of-reading (Config c) a b = of-places c (eqb (length file) PLACES) a b
 
   of-limit : (z : Reading) (t : Bool) → Untouched file clocks (cond t (readReply z file lim xs cut clocks) (refusedReply (limitOf lim) file clocks))
   of-limit z true a b = of-reading z a b

@@ -6,6 +6,7 @@ use mathlib.Core.List.{List}
 use lib.Dec.{eqb}
 use lib.ListN.{length}
 use Rattle.kinds.specs.declared.CFGR.{CFGR}
+use Rattle.startup.specs.Places.{PLACES}
 use Rattle.startup.specs.Start.{limitOf, startOf, waitNamed}
 use Rattle.startup.specs.Start.{numberOf as outcomeNumber}
 use Rattle.startup.specs.declared.Outcome.{Outcome}
@@ -56,9 +57,9 @@ refusedReport n = record { refusal = n; cut = 0; wait = 0; polls = 0 }
 abbrev pub refusedReply : ℕ → List ℕ → List ℕ → Reply
 refusedReply n file clocks = record { report = refusedReport n; file = file; clocks = clocks }
 
--- 14: any number of places but 35
+-- 14: a file of another number of places
 unfoldable pub placedReply : CFGR → List ℕ → ℕ → List ℕ → ℕ → List ℕ → Reply
-placedReply c file lim xs cut clocks = cond (eqb (length file) 35) (startedReply (startOf c file lim xs cut) clocks) (refusedReply 14 file clocks)
+placedReply c file lim xs cut clocks = cond (eqb (length file) PLACES) (startedReply (startOf c file lim xs cut) clocks) (refusedReply 14 file clocks)
 
 -- 14: a malformed record
 abbrev pub readReply : Reading → List ℕ → ℕ → List ℕ → ℕ → List ℕ → Reply

@@ -3,10 +3,12 @@ use super::Report;
 use kinds::CFGR;
 use numbers::plans::clock_numbers;
 use startup::Outcome;
+use startup::PLACES;
 use startup::Started;
 use startup::freeze;
 ghost use mathlib.Core.Path.{_≡_};
 ghost use lib.ListN.{length};
+ghost use Rattle.startup.specs.Places as places;
 ghost use Rattle.woolturret.specs.Starts as spec;
 
 // 13 or 14.
@@ -87,18 +89,18 @@ fn copy(from: &[u32], to: &mut [u32])
     }
 }
 
-fn file_of(lent: &[u32]) -> [u32; 35]
-    requires { ⌜ length (now lent) ≡ 35 ⌝ }
+fn file_of(lent: &[u32]) -> [u32; PLACES]
+    requires { ⌜ length (now lent) ≡ places.PLACES ⌝ }
     ensures { λ r. ⌜ r ≡ now (lent .entry) ⌝ }
 {
-    let mut file = [0u32; 35];
+    let mut file = [0u32; PLACES];
     copy(lent, &mut file);
     file
 }
 
 // The file is copied back in any case: a start that is refused, but for 12, has it as it came.
 fn hand_back(started: Started, file: &mut [u32], clocks: &mut [u32; 16]) -> Report
-    requires { ⌜ length (now file) ≡ 35 ⌝ }
+    requires { ⌜ length (now file) ≡ places.PLACES ⌝ }
     ensures { λ r. ⌜ spec.Starts (spec.startedReply started (now (clocks .entry))) r (now (file .exit)) (now (clocks .exit)) ⌝ }
 {
     let left = started.file;
@@ -108,7 +110,7 @@ fn hand_back(started: Started, file: &mut [u32], clocks: &mut [u32; 16]) -> Repo
     report(outcome, started.polls)
 }
 
-// A start of a configuration: 14 for any number of places but 35.
+// A start of a configuration: 14 for a file of another number of places.
 pub(crate) fn placed(
     cfgr: CFGR,
     file: &mut [u32],
@@ -119,7 +121,7 @@ pub(crate) fn placed(
 ) -> Report
     ensures { λ r. ⌜ spec.Starts (spec.placedReply cfgr (now (file .entry)) limit (now (answers .entry)) cut (now (clocks .entry))) r (now (file .exit)) (now (clocks .exit)) ⌝ }
 {
-    if file.len() == 35 {
+    if file.len() == PLACES {
         hand_back(
             freeze(cfgr, file_of(file), limit, answers, cut),
             file,

@@ -1,7 +1,9 @@
 -- `main` ends: each step leaves fewer records to read.
 use Prim.Native.Nat.{_≤_}
 use mathlib.Core.Path.{_≡_}
+use native.Mathlib.Omega.{arith}
 use lib.ListN.{length}
+use Rattle.planner.proofs.Asking.{stepped-less}
 use borrow.Author.Needs.{needs}
 use Rattle.planner.proofs.main.Statement.{statement}
 use Rattle.planner.proofs.main.Tie as tie
@@ -31,10 +33,13 @@ step-requires : tie.Need-step-requires Inv-loop μ-loop
 step-requires c κs = search needs
 
 loop-less : tie.Need-loop-less Inv-loop μ-loop
-loop-less c = search needs
+loop-less c = let s = c .before .before .before .before in stepped-less (s .step .ensures) (s .before .before .before .loop-test .taken)
 
 loop-again : tie.Need-loop-again Inv-loop μ-loop
-loop-again c = search needs
+loop-again c =
+    let s = c .before .before .before .before in
+    let h = stepped-less (s .step .ensures) (s .before .before .before .loop-test .taken) in
+    (search needs, search needs, omega (arith, h, s .before .before .before .before .loop .inv .2))
 
 returns : tie.Need-returns Inv-loop μ-loop
 returns c = search needs

@@ -1,6 +1,6 @@
--- `step` meets its contract: what is not the end took in a whole piece.
-use native.Mathlib.Nat.{le-trans}
-use Rattle.planner.proofs.Asking.{leaves-none, leaves-more}
+-- `step` meets its contract: what came in is answered, and what is left follows from how much it was and whether it was written.
+use native.Mathlib.Omega.{arith}
+use Rattle.planner.proofs.Asking.{answered-within, stepped}
 use borrow.Author.Needs.{needs}
 use Rattle.planner.proofs.step.Statement.{statement}
 use Rattle.planner.proofs.step.Tie as tie
@@ -14,20 +14,33 @@ take-in-requires c κs = search needs
 answered-requires : tie.Need-answered-requires
 answered-requires c κs = search needs
 
-slice-aggregate-write-all : tie.Need-slice-aggregate-write-all
-slice-aggregate-write-all c = search needs
+slice-aggregate-complain : tie.Need-slice-aggregate-complain
+slice-aggregate-complain c = search needs
 
-write-all-requires : tie.Need-write-all-requires
-write-all-requires c κs = search needs
+complain-requires : tie.Need-complain-requires
+complain-requires c κs = search needs
 
 write-lines-requires : tie.Need-write-lines-requires
-write-lines-requires c κs = search needs
+write-lines-requires c κs =
+    let p = c .before .before .before .before in
+    let q = p .before .before .before in
+    let w = q .before .before in
+    let a = answered-within (q .take-in .result) in
+    (omega (arith, a, p .answered .ensures, q .take-in .ensures .within, w .wanted .ensures), omega (arith, a, p .answered .ensures, q .take-in .ensures .within, w .wanted .ensures))
 
-slice-aggregate-write-all-2 : tie.Need-slice-aggregate-write-all-2
-slice-aggregate-write-all-2 c = search needs
+slice-aggregate-complain-2 : tie.Need-slice-aggregate-complain-2
+slice-aggregate-complain-2 c = search needs
 
-write-all-requires-2 : tie.Need-write-all-requires-2
-write-all-requires-2 c κs = search needs
+complain-requires-2 : tie.Need-complain-requires-2
+complain-requires-2 c κs = search needs
+
+left-after-requires : tie.Need-left-after-requires
+left-after-requires c κs =
+    let p = c .before .before .before .before .before .before .before .before .before in
+    let q = p .before .before .before in
+    let w = q .before .before in
+    let a = answered-within (q .take-in .result) in
+    omega (arith, a, p .answered .ensures, q .take-in .ensures .within, w .wanted .ensures)
 
 same-length : tie.Need-same-length
 same-length c = search needs
@@ -36,28 +49,11 @@ same-length-2 : tie.Need-same-length-2
 same-length-2 c = search needs
 
 returns : tie.Need-returns
-returns c = leaves-none _ (c .before .before .before .before .before .before .before .before .before .before .before .before .before .before .before .before .before .pre .2)
-
-same-length-3 : tie.Need-same-length-3
-same-length-3 c = search needs
-
-same-length-4 : tie.Need-same-length-4
-same-length-4 c = search needs
-
-returns-2 : tie.Need-returns-2
-returns-2 c = leaves-none _ (c .before .before .before .before .before .before .before .before .before .before .before .before .before .before .before .before .pre .2)
-
-sub-result : tie.Need-sub-result
-sub-result c = search needs
-
-same-length-5 : tie.Need-same-length-5
-same-length-5 c = search needs
-
-same-length-6 : tie.Need-same-length-6
-same-length-6 c = search needs
-
-returns-3 : tie.Need-returns-3
-returns-3 c = leaves-more _ (c .before .before .before .before .before .before .before .before .before .before .before .before .before .before .before .before .pre .2) (c .before .before .before .before .before .before .before .before .before .before .before .before .before .wanted .ensures) (le-trans (c .before .before .before .before .before .before .before .before .answered .ensures) (c .before .before .before .before .before .before .before .before .before .before .before .take-in .ensures)) (c .if3 .left)
+returns c =
+    let l = c .before .before .before .before .before in
+    let p = l .before .before .before .before .before in
+    let q = p .before .before .before in
+    stepped (q .before .before .wanted .ensures) (q .take-in .ensures) (p .answered .ensures) (l .write-lines .ensures) (c .left-after .ensures)
 
 pub step-spec : {M : Type 1} → statement M
 step-spec =
@@ -66,18 +62,12 @@ step-spec =
     wanted-requires
     take-in-requires
     answered-requires
-    slice-aggregate-write-all
-    write-all-requires
+    slice-aggregate-complain
+    complain-requires
     write-lines-requires
-    slice-aggregate-write-all-2
-    write-all-requires-2
+    slice-aggregate-complain-2
+    complain-requires-2
+    left-after-requires
     same-length
     same-length-2
-    returns
-    same-length-3
-    same-length-4
-    returns-2
-    sub-result
-    same-length-5
-    same-length-6
-    returns-3)
+    returns)

@@ -1,6 +1,7 @@
 -- `take_in` meets its contract: no read brings more than is still wanted, and each but the last brings some.
 use Prim.Native.Nat.{_-_, _≤_}
 use mathlib.Core.Path.{_≡_}
+use mathlib.Core.Bool.{false≢true}
 use lib.ListN.{length}
 use borrow.Author.Needs.{needs}
 use Rattle.planner.proofs.take_in.Statement.{statement}
@@ -37,7 +38,7 @@ same-length-2 : tie.Need-same-length-2 Inv-loop μ-loop
 same-length-2 c = search needs
 
 returns-2 : tie.Need-returns-2 Inv-loop μ-loop
-returns-2 c = search needs
+returns-2 c = record { within = search needs; short = λ e. absurd (false≢true e) }
 
 pub take-in-spec : {M : Type 1} → statement M
 take-in-spec =

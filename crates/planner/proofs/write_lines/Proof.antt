@@ -1,7 +1,8 @@
--- `write_lines` asks only for parts that there are.
+-- `write_lines` meets its contract, and asks only for parts that there are.
 use mathlib.Core.Path.{_≡_, sym}
 use lib.ListN.{length, take}
 use lib.Seq.{length-take-le}
+use Rattle.planner.proofs.Pieces.{holds}
 use borrow.Author.Needs.{needs}
 use Rattle.planner.proofs.write_lines.Statement.{statement}
 use Rattle.planner.proofs.write_lines.Tie as tie
@@ -28,7 +29,7 @@ same-length : tie.Need-same-length
 same-length c = search needs
 
 returns : tie.Need-returns
-returns c = search needs
+returns c = holds (c .before .before .before .before .put-text .ensures)
 
 pub write-lines-spec : {M : Type 1} → statement M
 write-lines-spec =

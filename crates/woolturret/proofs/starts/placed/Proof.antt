@@ -1,5 +1,5 @@
 -- `starts::placed` meets its contract: by the places of the file.
-use Rattle.woolturret.proofs.Starting.{placed-35, placed-else}
+use Rattle.woolturret.proofs.Starting.{placed-whole, placed-else}
 use borrow.Author.Needs.{needs}
 use Rattle.woolturret.proofs.starts.placed.Statement.{statement}
 use Rattle.woolturret.proofs.starts.placed.Tie as tie
@@ -20,7 +20,7 @@ same-length : tie.Need-same-length
 same-length c = search needs
 
 returns : tie.Need-returns
-returns c = let a = c .before .before .before .before .before in placed-35 _ _ _ _ _ (a .before .before .before .if1 .taken) (a .before .file-of .ensures) (a .freeze .ensures) (c .before .before .hand-back .ensures)
+returns c = let a = c .before .before .before .before .before in placed-whole _ _ _ _ _ (a .before .before .before .if1 .taken) (a .before .file-of .ensures) (a .freeze .ensures) (c .before .before .hand-back .ensures)
 
 returns-2 : tie.Need-returns-2
 returns-2 c = placed-else _ _ _ _ _ (c .before .if1 .left) (c .refused .ensures)
