@@ -1,5 +1,9 @@
--- Document 01, "Start-up": enums as numbers, in the Rust's order from 0; "Search": P as the divider that it is.
+-- Document 01, "Start-up": flags and enums as numbers, in the Rust's order from 0; "Search": P as the divider that it is; a request's
+-- hertz.
 use Prim.Native.Nat.{ℕ}
+use mathlib.Core.Bool.{Bool, true, false}
+use Rattle.kinds.specs.declared.Request.{Request}
+use Rattle.kinds.specs.declared.Request.the-variants.{Absent, At}
 use Rattle.kinds.specs.declared.PLLP.{PLLP}
 use Rattle.kinds.specs.declared.PLLP.the-variants.{Div2, Div4, Div6, Div8}
 use Rattle.kinds.specs.declared.MCO1.{MCO1}
@@ -8,6 +12,15 @@ use Rattle.kinds.specs.declared.MCO2.{MCO2}
 use Rattle.kinds.specs.declared.MCO2.the-variants.{Sysclk, Plli2s, Hse as Hse2, Pll as Pll2}
 use Rattle.kinds.specs.declared.MCOPRE.{MCOPRE}
 use Rattle.kinds.specs.declared.MCOPRE.the-variants.{Div1, Div2 as By2, Div3, Div4 as By4, Div5}
+
+abbrev pub flagOf : Bool → ℕ
+flagOf true = 1
+flagOf false = 0
+
+-- 0 where nothing is asked for
+abbrev pub askedHertz : Request → ℕ
+askedHertz Absent = 0
+askedHertz (At f) = f .0
 
 abbrev pub pllpCode : PLLP → ℕ
 pllpCode Div2 = 0

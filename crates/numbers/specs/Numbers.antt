@@ -1,8 +1,7 @@
 -- A configuration as 30 numbers, group by group.
 use Prim.Native.Nat.{ℕ}
-use mathlib.Core.Bool.{Bool, true, false}
 use mathlib.Core.List.{List, [], _∷_}
-use Rattle.kinds.specs.Codes.{pllpCode, mco1Code, mco2Code, mcopreCode}
+use Rattle.kinds.specs.Codes.{flagOf, askedHertz, pllpCode, mco1Code, mco2Code, mcopreCode}
 use Rattle.kinds.specs.declared.CFGR.{CFGR}
 use Rattle.kinds.specs.declared.HSEClock.{HSEClock}
 use Rattle.kinds.specs.declared.HSEClock.the-variants.{Absent, Oscillator, Bypass}
@@ -12,10 +11,6 @@ use Rattle.kinds.specs.declared.Choice48.{Choice48}
 use Rattle.kinds.specs.declared.Choice48.the-variants.{Absent as NoChoice, Pllq, Pllsai}
 use Rattle.kinds.specs.declared.Request.{Request}
 use Rattle.kinds.specs.declared.Request.the-variants.{Absent as NoRequest, At}
-
-abbrev pub flagOf : Bool → ℕ
-flagOf true = 1
-flagOf false = 0
 
 abbrev pub hseKind : HSEClock → ℕ
 hseKind Absent = 0
@@ -35,10 +30,6 @@ lseKind LseBypass = 2
 abbrev pub askedOf : Request → ℕ
 askedOf NoRequest = 0
 askedOf (At f) = 1
-
-abbrev pub askedHertz : Request → ℕ
-askedHertz NoRequest = 0
-askedHertz (At f) = f .0
 
 abbrev pub choiceKind : Choice48 → ℕ
 choiceKind NoChoice = 0

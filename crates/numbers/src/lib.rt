@@ -12,10 +12,11 @@ use kinds::codes::mco2_code;
 use kinds::codes::mcopre_code;
 use kinds::codes::pllp_code;
 ghost use mathlib.Core.Path.{_≡_};
+ghost use Rattle.kinds.specs.Codes.{flagOf, askedHertz};
 ghost use Rattle.numbers.specs.Numbers as spec;
 
 pub(crate) fn flag(on: bool) -> u32
-    ensures { λ r. ⌜ r ≡ spec.flagOf on ⌝ }
+    ensures { λ r. ⌜ r ≡ flagOf on ⌝ }
 {
     if on { 1 } else { 0 }
 }
@@ -60,7 +61,7 @@ fn asked(q: Request) -> u32
 }
 
 pub(crate) fn asked_hertz(q: Request) -> u32
-    ensures { λ r. ⌜ r ≡ spec.askedHertz q ⌝ }
+    ensures { λ r. ⌜ r ≡ askedHertz q ⌝ }
 {
     match q {
         Request::Absent => 0,

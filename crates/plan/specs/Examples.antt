@@ -1,9 +1,9 @@
 -- Document 01's examples marked P, and its default record: each as what is asked for and what plan answers.
 use Prim.Native.Nat.{ℕ}
-use mathlib.Core.Bool.{Bool, true, false, cond}
+use mathlib.Core.Bool.{Bool, true, false}
 use mathlib.Core.List.{List, [], _∷_}
 use Rattle.kinds.specs.Config.{inputOf, defaults}
-use Rattle.kinds.specs.Codes.{pDividerOf}
+use Rattle.kinds.specs.Codes.{flagOf, pDividerOf}
 use Rattle.kinds.specs.declared.CFGR.{CFGR}
 use Rattle.kinds.specs.declared.HSEClock.{HSEClock}
 use Rattle.kinds.specs.declared.HSEClock.the-variants.{Absent as NoHse, Oscillator, Bypass}
@@ -17,19 +17,16 @@ use Rattle.pll.specs.Fixed.{vcoOf, outOf}
 use Rattle.plan.specs.declared.Planned.{Planned}
 use Rattle.plan.specs.declared.Planned.the-variants.{Refused, Ready}
 
-abbrev flag : Bool → ℕ
-flag b = cond b 1 0
-
 -- a refusal: its number and passes. A plan: 0 and passes; use_pll, M, N, P, Q and PLLQ's output;
 -- SYSCLK, HCLK, PCLK1, PCLK2, both timers; HPRE, PPRE1, PPRE2, wait states, scale, over-drive, 48 MHz valid
 abbrev pub shown : Planned → List ℕ
 shown (Refused n k) = n ∷ k ∷ []
 shown (Ready c k x y) =
     0 ∷ k
-    ∷ flag (c .pll .use_pll) ∷ c .pll .m .0 ∷ c .pll .n .0 ∷ pDividerOf (c .pll .p) ∷ c .pll .q .0
+    ∷ flagOf (c .pll .use_pll) ∷ c .pll .m .0 ∷ c .pll .n .0 ∷ pDividerOf (c .pll .p) ∷ c .pll .q .0
     ∷ outOf (vcoOf (inputOf (c .sources .hse)) (c .pll .n .0) (c .pll .m .0)) (c .pll .q .0)
     ∷ x .sysclk .0 ∷ x .hclk .0 ∷ x .pclk1 .0 ∷ x .pclk2 .0 ∷ x .timclk1 .0 ∷ x .timclk2 .0
-    ∷ y .hpre ∷ y .ppre1 ∷ y .ppre2 ∷ y .«flash_waitstates» ∷ y .«vos_scale» ∷ flag (y .overdrive) ∷ flag (x .«pll48clk_valid»)
+    ∷ y .hpre ∷ y .ppre1 ∷ y .ppre2 ∷ y .«flash_waitstates» ∷ y .«vos_scale» ∷ flagOf (y .overdrive) ∷ flagOf (x .«pll48clk_valid»)
     ∷ []
 
 -- the Rust's defaults, with what an example asks for: HSE, SYSCLK, HCLK, PCLK1, `use_pll`, 48 MHz choice

@@ -6,7 +6,7 @@ use mathlib.Core.List.{List}
 use lib.Dec.{leb, eqb}
 use borrow.Author.Tests.{lt-ltb}
 use Rattle.kinds.specs.Config.{inputOf}
-use Rattle.kinds.specs.Codes.{pllpCode, pDividerOf}
+use Rattle.kinds.specs.Codes.{askedHertz, pllpCode, pDividerOf}
 use Rattle.kinds.specs.declared.CFGR.{CFGR}
 use Rattle.kinds.specs.declared.Pll.{Pll}
 use Rattle.kinds.specs.declared.Request.{Request}
@@ -21,7 +21,7 @@ use Rattle.clocks.specs.Derive.{timclkOf, sysclkOf, hpreOf, ahbFor, apbFor, ahb
 use Rattle.clocks.specs.declared.Clocks.{Clocks}
 use Rattle.startup.specs.Order.{srcOf, pllStored}
 use Rattle.startup.specs.Safe.{PllSet, Settled}
-use Rattle.startup.specs.Back.{hpreDivider, ppreDivider, pOutputIn, sysclkIn, hclkIn, timclk1In, timclk2In, pclk1In, pclk2In, hertzOf, Reads, Powered}
+use Rattle.startup.specs.Back.{hpreDivider, ppreDivider, pOutputIn, sysclkIn, hclkIn, timclk1In, timclk2In, pclk1In, pclk2In, Reads, Powered}
 
 -- ---- prescalers
 -- reading a row's code gives its divider
@@ -82,7 +82,7 @@ p-back Div6 = refl
 p-back Div8 = refl
 
 -- PLLSRC
-source-back : (h : HSEClock) → cond (eqb (srcOf h) 0) 16000000 (hertzOf (hseOf h)) ≡ inputOf h
+source-back : (h : HSEClock) → cond (eqb (srcOf h) 0) 16000000 (askedHertz (hseOf h)) ≡ inputOf h
 unfolding inputOf
 source-back Absent = refl
 source-back (Oscillator f) = refl
@@ -90,7 +90,7 @@ source-back (Bypass f) = refl
 
 -- SW: the P output as read, p, counts with `use_pll` alone; a plan with a 48 MHz choice stores the PLL's fields without it too
 switch-back : (on : Bool) (h : HSEClock) (p q : ℕ) → (on ≡ true → p ≡ q)
-    → cond (eqb (cond on 2 (srcOf h)) 0) (baseOf 16000000) (cond (eqb (cond on 2 (srcOf h)) 1) (baseOf (hertzOf (hseOf h))) p) ≡ cond on q (baseOf (inputOf h))
+    → cond (eqb (cond on 2 (srcOf h)) 0) (baseOf 16000000) (cond (eqb (cond on 2 (srcOf h)) 1) (baseOf (askedHertz (hseOf h))) p) ≡ cond on q (baseOf (inputOf h))
 unfolding inputOf
 switch-back true h p q e = e refl
 switch-back false Absent p q e = refl
@@ -102,17 +102,17 @@ stored : (l : Pll) → l .use_pll ≡ true → pllStored l ≡ true
 stored l e = rw e
 
 module _ (d : CFGR) (f : List ℕ) where
-  p-output-back : PllSet d (configOf d) f → pOutputIn (hertzOf (hseOf (d .sources .hse))) f ≡ pOutputOf d
+  p-output-back : PllSet d (configOf d) f → pOutputIn (askedHertz (hseOf (d .sources .hse))) f ≡ pOutputOf d
   unfolding pOutputOf
   p-output-back s = rw (s .m, s .n, s .p, s .src, p-back (d .pll .p), source-back (d .sources .hse))
 
-  sysclk-back : Settled d (configOf d) f → sysclkIn (hertzOf (hseOf (d .sources .hse))) f ≡ sysclkOf d
+  sysclk-back : Settled d (configOf d) f → sysclkIn (askedHertz (hseOf (d .sources .hse))) f ≡ sysclkOf d
   unfolding sysclkIn sysclkOf
   sysclk-back s =
       rw (s .source)
       (switch-back (d .pll .use_pll) (d .sources .hse) _ _ (λ e. p-output-back (s .pll (stored (d .pll) e))))
 
-  hclk-back : Settled d (configOf d) f → hclkIn (hertzOf (hseOf (d .sources .hse))) f ≡ ahbOf d .hclk .0
+  hclk-back : Settled d (configOf d) f → hclkIn (askedHertz (hseOf (d .sources .hse))) f ≡ ahbOf d .hclk .0
   unfolding hclkIn configOf ahbOf
   hclk-back s = rw (sysclk-back s, s .bus .hpre) (ahb-back (sysclkOf d) (d .requests .hclk))
 
@@ -136,8 +136,8 @@ module _ (d : CFGR) (f : List ℕ) where
 
 -- two plans with the same HSE whose codes one file holds have the same clocks
 module _ (x z : Clocks) (f : List ℕ) (e : x .hse ≡ z .hse) (r : Reads x f) (t : Reads z f) where
-  agree : (g : ℕ → List ℕ → ℕ) {a b : ℕ} → g (hertzOf (x .hse)) f ≡ a → g (hertzOf (z .hse)) f ≡ b → a ≡ b
-  agree g p q = sym p ∙ ap (λ (h : Request). g (hertzOf h) f) e ∙ q
+  agree : (g : ℕ → List ℕ → ℕ) {a b : ℕ} → g (askedHertz (x .hse)) f ≡ a → g (askedHertz (z .hse)) f ≡ b → a ≡ b
+  agree g p q = sym p ∙ ap (λ (h : Request). g (askedHertz h) f) e ∙ q
 
   pub same-clocks : (x .sysclk .0 ≡ z .sysclk .0) × (x .hclk .0 ≡ z .hclk .0) × (x .pclk1 .0 ≡ z .pclk1 .0) × (x .pclk2 .0 ≡ z .pclk2 .0)
   same-clocks =

@@ -5,8 +5,7 @@ use mathlib.Core.Path.{_≡_}
 use mathlib.Core.List.{List, [], _∷_}
 use lib.Dec.{eqb}
 use lib.ListN.{getD}
-use Rattle.kinds.specs.declared.Request.{Request}
-use Rattle.kinds.specs.declared.Request.the-variants.{Absent, At}
+use Rattle.kinds.specs.Codes.{askedHertz}
 use Rattle.pll.specs.Fixed.{vcoOf, outOf}
 use Rattle.pll.specs.Outputs.{baseOf}
 use Rattle.clocks.specs.Derive.{timclkOf, waitStatesOf, scaleOf}
@@ -50,19 +49,14 @@ timclk1In h f = timclkOf (pclk1In h f) (ppreDivider (getD f PPRE1 0))
 unfoldable pub timclk2In : ℕ → List ℕ → ℕ
 timclk2In h f = timclkOf (pclk2In h f) (ppreDivider (getD f PPRE2 0))
 
--- HSE as the clocks hand it back
-abbrev pub hertzOf : Request → ℕ
-hertzOf Absent = 0
-hertzOf (At f) = f .0
-
 -- the file's codes are those of the clocks x
 pub record Reads (x : Clocks) (f : List ℕ) : Type 0 where
-  pub sysclk : sysclkIn (hertzOf (x .hse)) f ≡ x .sysclk .0
-  pub hclk : hclkIn (hertzOf (x .hse)) f ≡ x .hclk .0
-  pub pclk1 : pclk1In (hertzOf (x .hse)) f ≡ x .pclk1 .0
-  pub pclk2 : pclk2In (hertzOf (x .hse)) f ≡ x .pclk2 .0
-  pub timclk1 : timclk1In (hertzOf (x .hse)) f ≡ x .timclk1 .0
-  pub timclk2 : timclk2In (hertzOf (x .hse)) f ≡ x .timclk2 .0
+  pub sysclk : sysclkIn (askedHertz (x .hse)) f ≡ x .sysclk .0
+  pub hclk : hclkIn (askedHertz (x .hse)) f ≡ x .hclk .0
+  pub pclk1 : pclk1In (askedHertz (x .hse)) f ≡ x .pclk1 .0
+  pub pclk2 : pclk2In (askedHertz (x .hse)) f ≡ x .pclk2 .0
+  pub timclk1 : timclk1In (askedHertz (x .hse)) f ≡ x .timclk1 .0
+  pub timclk2 : timclk2In (askedHertz (x .hse)) f ≡ x .timclk2 .0
   pub latency : getD f LATENCY 0 ≡ waitStatesOf (x .sysclk .0)
 
 -- and, where the plan stores the PLL's fields: VOS is SYSCLK's scale, and above 180 MHz over-drive is on
