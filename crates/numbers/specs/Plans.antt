@@ -10,7 +10,8 @@ use Rattle.clocks.specs.declared.Derived.{Derived}
 use Rattle.clocks.specs.declared.Derived.the-variants.{Refused as NotDerived, At}
 use Rattle.plan.specs.declared.Planned.{Planned}
 use Rattle.plan.specs.declared.Planned.the-variants.{Refused as NotPlanned, Ready as Planned'}
-use Rattle.numbers.specs.Numbers.{flagOf, askedHertz, numbersOf}
+use Rattle.kinds.specs.Codes.{flagOf, askedHertz}
+use Rattle.numbers.specs.Numbers.{numbersOf}
 
 -- SYSCLK, HCLK, PCLK1, PCLK2, both timers; HPRE, PPRE1, PPRE2, wait states, scale, over-drive; 48 MHz valid, HSE, LSE, LSI (0 absent)
 unfoldable pub clockNumbers : Clocks → InternalRCCConfig → List ℕ
