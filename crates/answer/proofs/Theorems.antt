@@ -1,15 +1,16 @@
 -- What a line tells of the bytes that it answers: by the cases of what they are read as and planned as.
-use Prim.Native.Nat.{ℕ, _≤_}
+use Prim.Native.Nat.{ℕ}
 use mathlib.Core.Path.{_≡_, sym, ap, _∙_, refl}
 use mathlib.Core.List.{List, [], _∷_}
-use mathlib.Core.Logic.{_↔_, _⊎_, inl, inr}
+use mathlib.Core.Logic.{_↔_}
 use native.Mathlib.Omega.{arith}
 use lib.ListN.{getD}
-use Rattle.kinds.specs.Table.{Between}
+use Rattle.kinds.proofs.Turns.{none-is}
 use Rattle.kinds.specs.declared.CFGR.{CFGR}
 use Rattle.clocks.specs.declared.Clocks.{Clocks}
 use Rattle.clocks.specs.declared.InternalRCCConfig.{InternalRCCConfig}
 use Rattle.plan.specs.Plan.{planOf, numberOf as planNumber}
+use Rattle.plan.specs.Refusals.{planNumbers}
 use Rattle.plan.specs.declared.Planned.{Planned}
 use Rattle.plan.specs.declared.Planned.the-variants.{Refused, Ready}
 use Rattle.plan.proofs.Theorems.{plan-gives-only, refused-is-not-0}
@@ -63,11 +64,7 @@ plan-reads-back c passes x g = ok-line-reads-back (numbersOf (c .pll) x g)
 
 -- no plan is refused with 14
 never-14 : (c : CFGR) → planNumber (planOf c) ≡ 14 → ⊥
-never-14 c e = from (plan-gives-only c)
-  where
-    from : (planNumber (planOf c) ≤ 7) ⊎ Between 9 11 (planNumber (planOf c)) → ⊥
-    from (inl l) = omega arith
-    from (inr b) = omega (arith, b .high)
+never-14 c e = none-is 14 (0 ∷ planNumbers) tt (planNumber (planOf c)) (plan-gives-only c) e
 
 -- the line is `no 14` exactly if the bytes are no well-formed record
 pub says-14-exactly : (bytes : List ℕ) → (answerLine bytes ≡ noLine 14) ↔ (WellFormed bytes → ⊥)

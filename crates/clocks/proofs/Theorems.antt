@@ -1,18 +1,21 @@
 -- What is promised of derive, for every configuration; each is read off one view of the answer and the lemmas of the other files.
 use Prim.Native.Nat.{ℕ, _-_, _/_, _≤_, _<_}
 use mathlib.Core.Path.{_≡_, refl, subst}
-use mathlib.Core.Logic.{_⊎_, inl, inr, _↔_}
+use mathlib.Core.Logic.{_↔_}
 use mathlib.Core.Bool.{Bool, true, false, cond}
-use lib.Dec.{leb, ltb, eqb, lit≤}
+use mathlib.Core.List.{[], _∷_}
+use lib.Dec.{T, leb, ltb, eqb}
 use native.Mathlib.Omega.{arith}
 use borrow.Author.Tests.{eqb-true, eqb-false, ltb-true, ltb-false, leb-true, leb-false, lt-leb}
 use Rattle.kinds.specs.Limits.{checkOf}
-use Rattle.kinds.specs.Table.{Between, Refused, LeastOf, Least, none, least, Checked}
-use Rattle.kinds.proofs.Check.{exactly, check-told, told-check, kept-none, check-least, check-le}
+use Rattle.kinds.specs.Table.{Between, Refused, limitNumbers, Checked}
+use Rattle.kinds.specs.Turns.{turnOf, First, none, first, OneOf}
+use Rattle.kinds.proofs.Turns.{exactly, wider, ahead, in-order, none-is}
+use Rattle.kinds.proofs.Check.{check-told, told-check, kept-none, check-first, limit-number, check-gives-only}
 use Rattle.kinds.specs.declared.CFGR.{CFGR}
 use Rattle.clocks.specs.Derive.{sysclkOf, cap1Of, cap2Of, ahbFor, ahbOf, apb1Of, apb2Of, waitStatesOf, clocksOf, configOf, settledOf, derivedOf}
 use Rattle.clocks.specs.Numbers.{derivedNumber}
-use Rattle.clocks.specs.Refusals.{DeriveRefused, limit, sysclk}
+use Rattle.clocks.specs.Refusals.{DeriveRefused, limit, sysclk, deriveNumbers}
 use Rattle.clocks.specs.Inner.{Sysclk}
 use Rattle.clocks.specs.declared.Clocks.{Clocks}
 use Rattle.clocks.specs.declared.InternalRCCConfig.{InternalRCCConfig}
@@ -41,34 +44,39 @@ derived-view c = from (eqb (checkOf c) 0) refl
     from false e = limited (eqb-false (checkOf c) 0 e)
 
 -- ---- which number it is
--- the number is the least that the table gives for derive, and 0 exactly where it gives none
-pub derive-least : (c : CFGR) → LeastOf (DeriveRefused c) (derivedNumber (derivedOf c))
-derive-least c = from (derivedOf c) (derived-view c)
+-- 8 comes after the numbers of the check
+limits-ahead : T (ahead limitNumbers (8 ∷ []))
+unfolding turnOf
+limits-ahead = tt
+
+-- the number is the first in turn of those that the table gives for derive, and 0 exactly where it gives none
+pub derive-first : (c : CFGR) → First (DeriveRefused c) (derivedNumber (derivedOf c))
+derive-first c = from (derivedOf c) (derived-view c)
   where
-    below : (a : ℕ) → a ≤ 6 → ((k : ℕ) → Refused c k → a ≤ k) → (k : ℕ) → DeriveRefused c k → a ≤ k
-    below a l f k (limit r) = f k r
-    below a l f k (sysclk h) = omega arith
+    before : (a : ℕ) → Refused c a → ((k : ℕ) → Refused c k → turnOf a ≤ turnOf k) → (k : ℕ) → DeriveRefused c k → turnOf a ≤ turnOf k
+    before a r f k (limit s) = f k s
+    before a r f k (sysclk h) = in-order limitNumbers (8 ∷ []) limits-ahead a 8 (limit-number c a r) tt
 
-    limits : (a : ℕ) → Least c a → a ≤ 6 → (a ≡ 0 → ⊥) → LeastOf (DeriveRefused c) a
-    limits a (none f) l n = absurd (n refl)
-    limits a (least r f) l n = least (limit r) (below a l f)
+    limits : (a : ℕ) → First (Refused c) a → (a ≡ 0 → ⊥) → First (DeriveRefused c) a
+    limits a (none f) n = absurd (n refl)
+    limits a (first r f) n = first (limit r) (before a r f)
 
-    only : Checked c → (k : ℕ) → DeriveRefused c k → 8 ≤ k
+    only : Checked c → (k : ℕ) → DeriveRefused c k → turnOf 8 ≤ turnOf k
     only q k (limit r) = absurd (kept-none c q k r)
-    only q k (sysclk h) = lit≤ tt
+    only q k (sysclk h) = omega arith
 
     never : Checked c → sysclkOf c ≤ 216000000 → (k : ℕ) → DeriveRefused c k → ⊥
     never q l k (limit r) = kept-none c q k r
     never q l k (sysclk h) = omega arith
 
-    from : (d : Derived) → DerivedView c d → LeastOf (DeriveRefused c) (derivedNumber d)
-    from d (limited n) = limits (checkOf c) (check-least c) (check-le c) n
-    from d (above q h) = least (sysclk h) (only q)
+    from : (d : Derived) → DerivedView c d → First (DeriveRefused c) (derivedNumber d)
+    from d (limited n) = limits (checkOf c) (check-first c) n
+    from d (above q h) = first (sysclk h) (only q)
     from d (given q s) = none (never q (s .high))
 
--- so it is n exactly if n is the least number given
-pub derive-refuses-exactly : (c : CFGR) (n : ℕ) → (derivedNumber (derivedOf c) ≡ n) ↔ LeastOf (DeriveRefused c) n
-derive-refuses-exactly c n = exactly (derive-least c)
+-- so it is n exactly if n is the first in turn of those given
+pub derive-refuses-exactly : (c : CFGR) (n : ℕ) → (derivedNumber (derivedOf c) ≡ n) ↔ First (DeriveRefused c) n
+derive-refuses-exactly c n = exactly (derive-first c)
 
 -- it accepts exactly if every limit is kept and SYSCLK is at most 216 MHz
 pub derive-accepts-exactly : (c : CFGR) → (derivedNumber (derivedOf c) ≡ 0) ↔ (Checked c × (sysclkOf c ≤ 216000000))
@@ -93,18 +101,18 @@ pub derive-refuses-with-8-exactly : (c : CFGR) → (derivedNumber (derivedOf c) 
 derive-refuses-with-8-exactly c = from (derivedOf c) (derived-view c)
   where
     from : (d : Derived) → DerivedView c d → (derivedNumber d ≡ 8) ↔ (Checked c × (216000000 < sysclkOf c))
-    from d (limited n) = (λ e. absurd (omega (arith, check-le c)), λ w. absurd (n (told-check c (w .0))))
+    from d (limited n) = (λ e. absurd (none-is 8 (0 ∷ limitNumbers) tt (checkOf c) (check-gives-only c) e), λ w. absurd (n (told-check c (w .0))))
     from d (above q h) = (λ e. (q, h), λ w. refl)
     from d (given q s) = (λ e. absurd (omega arith), λ w. absurd (omega (arith, w .1, s .high)))
 
 -- it gives no other number
-pub derive-gives-only : (c : CFGR) → (derivedNumber (derivedOf c) ≤ 6) ⊎ (derivedNumber (derivedOf c) ≡ 8)
+pub derive-gives-only : (c : CFGR) → OneOf (0 ∷ deriveNumbers) (derivedNumber (derivedOf c))
 derive-gives-only c = from (derivedOf c) (derived-view c)
   where
-    from : (d : Derived) → DerivedView c d → (derivedNumber d ≤ 6) ⊎ (derivedNumber d ≡ 8)
-    from d (limited n) = inl (check-le c)
-    from d (above q h) = inr refl
-    from d (given q s) = inl (lit≤ tt)
+    from : (d : Derived) → DerivedView c d → OneOf (0 ∷ deriveNumbers) (derivedNumber d)
+    from d (limited n) = wider (0 ∷ limitNumbers) (0 ∷ deriveNumbers) tt (checkOf c) (check-gives-only c)
+    from d (above q h) = tt
+    from d (given q s) = tt
 
 -- ---- wait states
 -- up to 216 MHz the ladder is (SYSCLK − 1) / 30,000,000

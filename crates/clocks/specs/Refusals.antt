@@ -1,6 +1,7 @@
--- Document 01's table of refusals as far as derive goes: when it gives a number; of several, the least is answered (`LeastOf`).
+-- Document 01's table of refusals as far as derive goes: when it gives a number; of several, the first in turn is answered (`First`).
 use Prim.Native.Nat.{ℕ, _<_}
-use Rattle.kinds.specs.Table.{Refused}
+use mathlib.Core.List.{List, _∷_}
+use Rattle.kinds.specs.Table.{Refused, limitNumbers}
 use Rattle.kinds.specs.declared.CFGR.{CFGR}
 use Rattle.clocks.specs.Derive.{sysclkOf}
 
@@ -8,3 +9,7 @@ use Rattle.clocks.specs.Derive.{sysclkOf}
 pub data DeriveRefused (c : CFGR) : ℕ → Type 0 where
   limit : {n : ℕ} → Refused c n → DeriveRefused c n
   sysclk : 216000000 < sysclkOf c → DeriveRefused c 8
+
+-- the numbers that it can give
+abbrev pub deriveNumbers : List ℕ
+deriveNumbers = 8 ∷ limitNumbers

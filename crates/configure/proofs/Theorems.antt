@@ -1,12 +1,15 @@
 -- What is promised of `pll_configure`, for every configuration; each is read off the five ways.
 use Prim.Native.Nat.{ℕ, _≤_}
-use mathlib.Core.Path.{_≡_, refl, subst}
+use mathlib.Core.Path.{_≡_, refl, sym, _∙_, subst}
 use mathlib.Core.Logic.{⊎-elim, _↔_}
 use mathlib.Core.Bool.{true}
+use mathlib.Core.List.{_∷_}
 use native.Mathlib.Omega.{arith}
 use Rattle.kinds.specs.Limits.{checkOf}
-use Rattle.kinds.specs.Table.{Between, Checked}
-use Rattle.kinds.proofs.Check.{told-check, check-le}
+use Rattle.kinds.specs.Table.{limitNumbers, Checked}
+use Rattle.kinds.specs.Turns.{OneOf}
+use Rattle.kinds.proofs.Turns.{wider, none-is}
+use Rattle.kinds.proofs.Check.{told-check, check-gives-only}
 use Rattle.kinds.specs.declared.CFGR.{CFGR}
 use Rattle.pll.specs.Numbers.{passesOf as searchPasses}
 use Rattle.pll.specs.Good.{Answer}
@@ -16,7 +19,7 @@ use Rattle.pll.specs.declared.Found.the-variants.{Nothing}
 use Rattle.pll.proofs.Theorems.{answer-is-right}
 use Rattle.pll.specs.Outputs.{pOutputOf}
 use Rattle.configure.specs.Configure.{offOf, baseIn, wantedIn, pWindowIn, qWindowIn, configuredOf, numberOf, passesOf}
-use Rattle.configure.specs.Ways.{searchIn, Seeks, gives, Ways, refused, unneeded, fitting, missed, found, NoneGood, Settles, Near, Keeps}
+use Rattle.configure.specs.Ways.{searchIn, Seeks, gives, Ways, refused, unneeded, fitting, missed, found, NoneGood, configureNumbers, Settles, Near, Keeps}
 use Rattle.configure.specs.declared.Configured.{Configured}
 use Rattle.configure.specs.declared.Configured.the-variants.{Refused, Ready}
 use Rattle.configure.proofs.Configuring.{wanted-range, base-range}
@@ -30,26 +33,32 @@ none-good c e = (subst (λ (z : Found). Answer (baseIn c) (pWindowIn c) (qWindow
 
 -- ---- when it refuses
 module _ (c : CFGR) where
-  -- with 1 to 6 exactly as the check does
-  pub refuses-as-the-check : (n : ℕ) → Between 1 6 n → (numberOf (configuredOf c) ≡ n) ↔ (checkOf c ≡ n)
-  refuses-as-the-check n b = cases (configuredOf c) (configured-way c)
+  -- with a number of the check exactly as the check does
+  pub refuses-as-the-check : (n : ℕ) → OneOf limitNumbers n → (numberOf (configuredOf c) ≡ n) ↔ (checkOf c ≡ n)
+  refuses-as-the-check n o = cases (configuredOf c) (configured-way c)
     where
+      not-0 : 0 ≡ n → ⊥
+      not-0 e = none-is 0 limitNumbers tt n o (sym e)
+
+      not-7 : 7 ≡ n → ⊥
+      not-7 e = none-is 7 limitNumbers tt n o (sym e)
+
       kept : Checked c → checkOf c ≡ n → ⊥
-      kept h e = let z = told-check c h in omega (arith, b .low)
+      kept h e = not-0 (sym (told-check c h) ∙ e)
 
       cases : (r : Configured) → Ways c r → (numberOf r ≡ n) ↔ (checkOf c ≡ n)
       cases (Refused i k) (refused a) = (λ e. e, λ e. e)
-      cases (Refused i k) (missed s a) = (λ e. absurd (omega (arith, b .high)), λ e. absurd (kept (s .checked) e))
-      cases (Ready d k) (unneeded h p q) = (λ e. absurd (omega (arith, b .low)), λ e. absurd (kept h e))
-      cases (Ready d k) (fitting h s q f) = (λ e. absurd (omega (arith, b .low)), λ e. absurd (kept h e))
-      cases (Ready d k) (found s a) = (λ e. absurd (omega (arith, b .low)), λ e. absurd (kept (s .checked) e))
+      cases (Refused i k) (missed s a) = (λ e. absurd (not-7 e), λ e. absurd (kept (s .checked) e))
+      cases (Ready d k) (unneeded h p q) = (λ e. absurd (not-0 e), λ e. absurd (kept h e))
+      cases (Ready d k) (fitting h s q f) = (λ e. absurd (not-0 e), λ e. absurd (kept h e))
+      cases (Ready d k) (found s a) = (λ e. absurd (not-0 e), λ e. absurd (kept (s .checked) e))
 
   -- with 7 exactly if the search runs and no pair is good
   pub refuses-with-7-exactly : (numberOf (configuredOf c) ≡ 7) ↔ (Seeks c × NoneGood c)
   refuses-with-7-exactly = cases (configuredOf c) (configured-way c)
     where
       cases : (r : Configured) → Ways c r → (numberOf r ≡ 7) ↔ (Seeks c × NoneGood c)
-      cases (Refused i k) (refused a) = (λ e. absurd (let h = check-le c in omega arith), λ h. absurd (a (told-check c (h .0 .checked))))
+      cases (Refused i k) (refused a) = (λ e. absurd (none-is 7 (0 ∷ limitNumbers) tt (checkOf c) (check-gives-only c) e), λ h. absurd (a (told-check c (h .0 .checked))))
       cases (Refused i k) (missed s a) = (λ e. (s, none-good c a), λ h. refl)
       cases (Ready d k) (unneeded h p q) = (λ e. absurd (omega arith), λ w. absurd (no-window (pWindowIn c) (qWindowIn c) p q (w .0 .sought)))
       cases (Ready d k) (fitting h s q f) = (λ e. absurd (omega arith), λ w. absurd (w .0 .unfit q f))
@@ -57,13 +66,13 @@ module _ (c : CFGR) where
           (λ e. absurd (omega arith), λ w. absurd (w .1 (m .0) (n .0) (best c m n x y j a .good)))
 
   -- and with no other number
-  pub refuses-up-to-7 : numberOf (configuredOf c) ≤ 7
-  refuses-up-to-7 = cases (configuredOf c) (configured-way c)
+  pub configure-gives-only : OneOf (0 ∷ configureNumbers) (numberOf (configuredOf c))
+  configure-gives-only = cases (configuredOf c) (configured-way c)
     where
-      cases : (r : Configured) → Ways c r → numberOf r ≤ 7
-      cases (Refused i k) (refused a) = let h = check-le c in omega arith
-      cases (Refused i k) (missed s a) = omega arith
-      cases (Ready d k) w = omega arith
+      cases : (r : Configured) → Ways c r → OneOf (0 ∷ configureNumbers) (numberOf r)
+      cases (Refused i k) (refused a) = wider (0 ∷ limitNumbers) (0 ∷ configureNumbers) tt (checkOf c) (check-gives-only c)
+      cases (Refused i k) (missed s a) = tt
+      cases (Ready d k) w = tt
 
   -- ---- its passes: those of the search where it runs, whatever it finds
   pub passes-are-the-search's : Seeks c → passesOf (configuredOf c) ≡ searchPasses (searchIn c)

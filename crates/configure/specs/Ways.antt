@@ -1,9 +1,10 @@
 -- Document 01, "Whether the PLL is used", as facts: when the search runs, and the five ways to an answer.
 use Prim.Native.Nat.{ℕ, _+_, _≤_}
 use mathlib.Core.Path.{_≡_}
+use mathlib.Core.List.{List, _∷_}
 use Rattle.kinds.specs.Limits.{checkOf}
 use Rattle.kinds.specs.Setters.{putPll}
-use Rattle.kinds.specs.Table.{Checked}
+use Rattle.kinds.specs.Table.{limitNumbers, Checked}
 use Rattle.kinds.specs.declared.CFGR.{CFGR}
 use Rattle.kinds.specs.declared.Divider.{Divider}
 use Rattle.kinds.specs.declared.Factor.{Factor}
@@ -42,6 +43,10 @@ pub data Ways (c : CFGR) : Configured → Type 0 where
   fitting : Checked c → SomeWindow (pWindowIn c) (qWindowIn c) → qWindowIn c ≡ Absent → wantedIn c ≡ pOutputOf c → Ways c (Ready c 0)
   missed : {k : ℕ} → Seeks c → searchIn c ≡ Nothing k → Ways c (Refused 7 k)
   found : {m : Divider} {n : Factor} {x y : Sought} {k : ℕ} → Seeks c → searchIn c ≡ Pair m n x y k → Ways c (Ready (gives c m n x y) k)
+
+-- the numbers that it can refuse with: those of the check, and 7
+abbrev pub configureNumbers : List ℕ
+configureNumbers = 7 ∷ limitNumbers
 
 -- d is c as planned, after k passes
 abbrev pub Settles : CFGR → CFGR → ℕ → Type 0

@@ -1,28 +1,21 @@
--- The check gives the least number of document 01's table, and 0 exactly where every limit is kept: each limit by its range test, joined in the table's order.
+-- The check gives the first in turn of document 01's table, and 0 exactly where every limit is kept: each limit by its range test, joined in the order of turns.
 use Prim.Native.Nat.{ℕ, zero, suc, _≤_, _<_}
 use mathlib.Core.Path.{_≡_, refl, subst}
 use mathlib.Core.Logic.{_⊎_, inl, inr, _↔_}
 use mathlib.Core.Bool.{Bool, true, false, cond, _&&_}
+use mathlib.Core.List.{_∷_}
 use lib.Dec.{leb}
 use native.Mathlib.Omega.{arith}
 use borrow.Author.Tests.{leb-true, leb-false, ne-eqb}
 use Rattle.kinds.specs.Limits.{outsideOf, limited, firstOf, hseRefusal, askedRefusal, requestsRefusal, checkOf}
-use Rattle.kinds.specs.Table.{Between, Outside, HseWithin, HseOutside, AskedWithin, AskedOutside, Refused, hse, hclk, sysclk, pclk1, pclk2, pllm, plln, pllq, pllsain, pllsaiq, plli2sn, plli2sr, plli2sq, LeastOf, Least, none, least, Checked}
+use Rattle.kinds.specs.Table.{Between, Outside, HseWithin, HseOutside, AskedWithin, AskedOutside, Refused, hse, hclk, sysclk, pclk1, pclk2, pllm, plln, pllq, pllsain, pllsaiq, plli2sn, plli2sr, plli2sq, limitNumbers, Checked}
+use Rattle.kinds.specs.Turns.{turnOf, First, none, first, OneOf}
+use Rattle.kinds.proofs.Turns.{exactly, given-only, wider}
 use Rattle.kinds.specs.declared.CFGR.{CFGR}
 use Rattle.kinds.specs.declared.HSEClock.{HSEClock}
 use Rattle.kinds.specs.declared.HSEClock.the-variants.{Absent as NoHse, Oscillator, Bypass}
 use Rattle.kinds.specs.declared.Request.{Request}
 use Rattle.kinds.specs.declared.Request.the-variants.{Absent as NoRequest, At}
-
--- ---- the least number given is one
-pub least-one : {G : ℕ → Type 0} {a b : ℕ} → LeastOf G a → LeastOf G b → a ≡ b
-least-one (none f) (none g) = refl
-least-one (none f) (least {n = n} x g) = absurd (f n x)
-least-one (least {n = n} x f) (none g) = absurd (g n x)
-least-one (least {n = m} x f) (least {n = n} y g) = let a = f n y in let b = g m x in omega arith
-
-pub exactly : {G : ℕ → Type 0} {a n : ℕ} → LeastOf G a → (a ≡ n) ↔ LeastOf G n
-exactly {G} l = (λ e. subst (λ (z : ℕ). LeastOf G z) e l, λ k. least-one l k)
 
 -- ---- one limit
 -- what a test of a limit tells: P is that it is kept, Q that it is broken, and k its number
@@ -73,14 +66,14 @@ hse-zero h = zero-told _ (omega arith) (hse-told h)
 pub zero-hse : (h : HSEClock) → HseWithin h → hseRefusal h ≡ 0
 zero-hse h = told-zero _ (hse-told h)
 
--- ---- several limits: P is that all are kept, R n that number n is given, and lo to hi the numbers that can be
+-- ---- several limits: P is that all are kept, R n that number n is given, and lo to hi the turns of the numbers that can be
 record Covers (P : Type 0) (R : ℕ → Type 0) (lo hi a : ℕ) : Type 0 where
   kept : a ≡ 0 → P
   none-given : P → (n : ℕ) → R n → ⊥
   given : 0 < a → R a
-  least-given : 0 < a → (n : ℕ) → R n → a ≤ n
-  low : (n : ℕ) → R n → lo ≤ n
-  high : (n : ℕ) → R n → n ≤ hi
+  first-given : 0 < a → (n : ℕ) → R n → turnOf a ≤ turnOf n
+  low : (n : ℕ) → R n → lo ≤ turnOf n
+  high : (n : ℕ) → R n → turnOf n ≤ hi
   span : lo ≤ hi
 
 abbrev One : ℕ → Type 0 → ℕ → Type 0
@@ -89,23 +82,23 @@ One k Q n = (n ≡ k) × Q
 abbrev Either : (ℕ → Type 0) → (ℕ → Type 0) → ℕ → Type 0
 Either R S n = R n ⊎ S n
 
-one : {P Q : Type 0} (k : ℕ) {a : ℕ} → 0 < k → Told P Q k a → Covers P (One k Q) k k a
+one : {P Q : Type 0} (k : ℕ) {a : ℕ} → 0 < k → Told P Q k a → Covers P (One k Q) (turnOf k) (turnOf k) a
 one k pos (inside p q) = record {
   kept = λ _. p;
   none-given = λ _ n r. q (r .1);
   given = λ h. absurd (omega arith);
-  least-given = λ h. absurd (omega arith);
-  low = λ n r. omega (arith, r .0);
-  high = λ n r. omega (arith, r .0);
+  first-given = λ h. absurd (omega arith);
+  low = λ n r. rw (r .0) (omega arith);
+  high = λ n r. rw (r .0) (omega arith);
   span = omega arith;
 }
 one k pos (broken q p) = record {
   kept = λ e. absurd (omega arith);
   none-given = λ w n r. p w;
   given = λ _. (refl, q);
-  least-given = λ _ n r. omega (arith, r .0);
-  low = λ n r. omega (arith, r .0);
-  high = λ n r. omega (arith, r .0);
+  first-given = λ _ n r. rw (r .0) (omega arith);
+  low = λ n r. rw (r .0) (omega arith);
+  high = λ n r. rw (r .0) (omega arith);
   span = omega arith;
 }
 
@@ -118,50 +111,50 @@ module _ {P S : Type 0} {R T : ℕ → Type 0} {l m h i : ℕ} (le : m ≤ h) wh
   never c d w n (inl r) = c .none-given (w .0) n r
   never c d w n (inr t) = d .none-given (w .1) n t
 
-  lows : {a b : ℕ} → Covers P R l m a → Covers S T h i b → (n : ℕ) → R n ⊎ T n → l ≤ n
+  lows : {a b : ℕ} → Covers P R l m a → Covers S T h i b → (n : ℕ) → R n ⊎ T n → l ≤ turnOf n
   lows c d n (inl r) = c .low n r
   lows c d n (inr t) = omega (arith, c .span, d .low n t)
 
-  highs : {a b : ℕ} → Covers P R l m a → Covers S T h i b → (n : ℕ) → R n ⊎ T n → n ≤ i
+  highs : {a b : ℕ} → Covers P R l m a → Covers S T h i b → (n : ℕ) → R n ⊎ T n → turnOf n ≤ i
   highs c d n (inl r) = omega (arith, d .span, c .high n r)
   highs c d n (inr t) = d .high n t
 
-  -- joined, the first that refuses: where the numbers rise, its number is the least
+  -- joined, the first that refuses: where the turns rise, its number is the first in turn
   joined : (a b : ℕ) → Covers P R l m a → Covers S T h i b → Covers (P × S) (Either R T) l i (firstOf a b)
   unfolding firstOf
   joined zero b c d = record {
     kept = λ e. (c .kept refl, d .kept e);
     none-given = λ w n. never c d w n;
     given = λ p. inr (d .given p);
-    least-given = λ p n. below p n;
+    first-given = λ p n. below p n;
     low = λ n. lows c d n;
     high = λ n. highs c d n;
     span = omega (arith, c .span, d .span);
   }
     where
-      below : 0 < b → (n : ℕ) → R n ⊎ T n → b ≤ n
+      below : 0 < b → (n : ℕ) → R n ⊎ T n → turnOf b ≤ turnOf n
       below p n (inl r) = absurd (c .none-given (c .kept refl) n r)
-      below p n (inr t) = d .least-given p n t
+      below p n (inr t) = d .first-given p n t
   joined (suc k) b c d = rw (first-here k b) (record {
     kept = λ e. absurd (omega arith);
     none-given = λ w n. never c d w n;
     given = λ p. inl (c .given p);
-    least-given = λ p n. below p n;
+    first-given = λ p n. below p n;
     low = λ n. lows c d n;
     high = λ n. highs c d n;
     span = omega (arith, c .span, d .span);
   })
     where
-      below : 0 < suc k → (n : ℕ) → R n ⊎ T n → suc k ≤ n
-      below p n (inl r) = c .least-given p n r
+      below : 0 < suc k → (n : ℕ) → R n ⊎ T n → turnOf (suc k) ≤ turnOf n
+      below p n (inl r) = c .first-given p n r
       below p n (inr t) = omega (arith, c .high (suc k) (c .given p), d .low n t)
 
 -- ---- the whole configuration
-covers-asked : (lo hi k : ℕ) → 0 < k → (r : Request) → Covers (AskedWithin lo hi r) (One k (AskedOutside lo hi r)) k k (askedRefusal (limited lo hi k) r)
+covers-asked : (lo hi k : ℕ) → 0 < k → (r : Request) → Covers (AskedWithin lo hi r) (One k (AskedOutside lo hi r)) (turnOf k) (turnOf k) (askedRefusal (limited lo hi k) r)
 covers-asked lo hi k pos r = one k pos (asked-told lo hi k r)
 
 -- any divider or factor
-covers-six : (lo hi x : ℕ) → Covers (Between lo hi x) (One 6 (Outside lo hi x)) 6 6 (outsideOf lo hi 6 x)
+covers-six : (lo hi x : ℕ) → Covers (Between lo hi x) (One 6 (Outside lo hi x)) (turnOf 6) (turnOf 6) (outsideOf lo hi 6 x)
 covers-six lo hi x = one 6 (omega arith) (outside-told lo hi 6 x)
 
 module _ (c : CFGR) where
@@ -188,24 +181,31 @@ module _ (c : CFGR) where
       (Either (One 4 (AskedOutside 12500000 54000000 (c .requests .pclk1)))
       (One 5 (AskedOutside 12500000 108000000 (c .requests .pclk2)))))
 
-  abbrev GivenPlls : ℕ → Type 0
-  GivenPlls =
-      Either (Either (One 6 (Outside 2 63 (c .pll .m .0))) (Either (One 6 (Outside 50 432 (c .pll .n .0))) (One 6 (Outside 2 15 (c .pll .q .0)))))
-      (Either (Either (One 6 (Outside 50 432 (c .sai .n .0))) (One 6 (Outside 2 15 (c .sai .q .0))))
-      (Either (One 6 (Outside 50 432 (c .i2s .n .0))) (Either (One 6 (Outside 2 7 (c .i2s .r .0))) (One 6 (Outside 2 15 (c .i2s .q .0))))))
+  abbrev GivenPll : ℕ → Type 0
+  GivenPll = Either (One 6 (Outside 2 63 (c .pll .m .0))) (Either (One 6 (Outside 50 432 (c .pll .n .0))) (One 6 (Outside 2 15 (c .pll .q .0))))
+
+  abbrev GivenSai : ℕ → Type 0
+  GivenSai = Either (One 6 (Outside 50 432 (c .sai .n .0))) (One 6 (Outside 2 15 (c .sai .q .0)))
+
+  abbrev GivenI2s : ℕ → Type 0
+  GivenI2s = Either (One 6 (Outside 50 432 (c .i2s .n .0))) (Either (One 6 (Outside 2 7 (c .i2s .r .0))) (One 6 (Outside 2 15 (c .i2s .q .0))))
 
   abbrev Given : ℕ → Type 0
-  Given = Either (One 1 (HseOutside (c .sources .hse))) (Either GivenRequests GivenPlls)
+  Given = Either (One 1 (HseOutside (c .sources .hse))) (Either GivenRequests (Either GivenPll (Either GivenSai GivenI2s)))
 
-  covers-requests : Covers Requests GivenRequests 2 5 (requestsRefusal (c .requests))
+  abbrev All : Type 0
+  All = HseWithin (c .sources .hse) × (Requests × (Pll × (Sai × I2s)))
+
+  covers-requests : Covers Requests GivenRequests (turnOf 2) (turnOf 5) (requestsRefusal (c .requests))
+  unfolding turnOf
   covers-requests =
       joined (omega arith) _ _ (covers-asked 0 216000000 2 (omega arith) (c .requests .hclk))
       (joined (omega arith) _ _ (covers-asked 12500000 216000000 3 (omega arith) (c .requests .sysclk))
       (joined (omega arith) _ _ (covers-asked 12500000 54000000 4 (omega arith) (c .requests .pclk1))
       (covers-asked 12500000 108000000 5 (omega arith) (c .requests .pclk2))))
 
-  covers : Covers (HseWithin (c .sources .hse) × (Requests × (Pll × (Sai × I2s)))) Given 1 6 (checkOf c)
-  unfolding checkOf
+  covers : Covers All Given (turnOf 1) (turnOf 6) (checkOf c)
+  unfolding checkOf turnOf
   covers =
       joined (omega arith) _ _ (one 1 (omega arith) (hse-told (c .sources .hse)))
       (joined (omega arith) _ _ covers-requests
@@ -213,77 +213,114 @@ module _ (c : CFGR) where
       (joined (omega arith) _ _ (joined (omega arith) _ _ (covers-six 50 432 _) (covers-six 2 15 _))
       (joined (omega arith) _ _ (covers-six 50 432 _) (joined (omega arith) _ _ (covers-six 2 7 _) (covers-six 2 15 _))))))
 
-  -- the table, as the sum that the join makes
+  -- the table, group by group, as the sum that the join makes
+  in-requests : (n : ℕ) → GivenRequests n → Given n
+  in-requests n x = inr (inl x)
+
+  in-pll : (n : ℕ) → GivenPll n → Given n
+  in-pll n x = inr (inr (inl x))
+
+  in-sai : (n : ℕ) → GivenSai n → Given n
+  in-sai n x = inr (inr (inr (inl x)))
+
+  in-i2s : (n : ℕ) → GivenI2s n → Given n
+  in-i2s n x = inr (inr (inr (inr x)))
+
   to-given : (n : ℕ) → Refused c n → Given n
   to-given n (hse x) = inl (refl, x)
-  to-given n (hclk x) = inr (inl (inl (refl, x)))
-  to-given n (sysclk x) = inr (inl (inr (inl (refl, x))))
-  to-given n (pclk1 x) = inr (inl (inr (inr (inl (refl, x)))))
-  to-given n (pclk2 x) = inr (inl (inr (inr (inr (refl, x)))))
-  to-given n (pllm x) = inr (inr (inl (inl (refl, x))))
-  to-given n (plln x) = inr (inr (inl (inr (inl (refl, x)))))
-  to-given n (pllq x) = inr (inr (inl (inr (inr (refl, x)))))
-  to-given n (pllsain x) = inr (inr (inr (inl (inl (refl, x)))))
-  to-given n (pllsaiq x) = inr (inr (inr (inl (inr (refl, x)))))
-  to-given n (plli2sn x) = inr (inr (inr (inr (inl (refl, x)))))
-  to-given n (plli2sr x) = inr (inr (inr (inr (inr (inl (refl, x))))))
-  to-given n (plli2sq x) = inr (inr (inr (inr (inr (inr (refl, x))))))
+  to-given n (hclk x) = in-requests 2 (inl (refl, x))
+  to-given n (sysclk x) = in-requests 3 (inr (inl (refl, x)))
+  to-given n (pclk1 x) = in-requests 4 (inr (inr (inl (refl, x))))
+  to-given n (pclk2 x) = in-requests 5 (inr (inr (inr (refl, x))))
+  to-given n (pllm x) = in-pll 6 (inl (refl, x))
+  to-given n (plln x) = in-pll 6 (inr (inl (refl, x)))
+  to-given n (pllq x) = in-pll 6 (inr (inr (refl, x)))
+  to-given n (pllsain x) = in-sai 6 (inl (refl, x))
+  to-given n (pllsaiq x) = in-sai 6 (inr (refl, x))
+  to-given n (plli2sn x) = in-i2s 6 (inl (refl, x))
+  to-given n (plli2sr x) = in-i2s 6 (inr (inl (refl, x)))
+  to-given n (plli2sq x) = in-i2s 6 (inr (inr (refl, x)))
 
   by : {k n : ℕ} → n ≡ k → Refused c k → Refused c n
   by e r = rw e r
 
+  from-requests : (n : ℕ) → GivenRequests n → Refused c n
+  from-requests n (inl (e, x)) = by e (hclk x)
+  from-requests n (inr (inl (e, x))) = by e (sysclk x)
+  from-requests n (inr (inr (inl (e, x)))) = by e (pclk1 x)
+  from-requests n (inr (inr (inr (e, x)))) = by e (pclk2 x)
+
+  from-pll : (n : ℕ) → GivenPll n → Refused c n
+  from-pll n (inl (e, x)) = by e (pllm x)
+  from-pll n (inr (inl (e, x))) = by e (plln x)
+  from-pll n (inr (inr (e, x))) = by e (pllq x)
+
+  from-sai : (n : ℕ) → GivenSai n → Refused c n
+  from-sai n (inl (e, x)) = by e (pllsain x)
+  from-sai n (inr (e, x)) = by e (pllsaiq x)
+
+  from-i2s : (n : ℕ) → GivenI2s n → Refused c n
+  from-i2s n (inl (e, x)) = by e (plli2sn x)
+  from-i2s n (inr (inl (e, x))) = by e (plli2sr x)
+  from-i2s n (inr (inr (e, x))) = by e (plli2sq x)
+
   from-given : (n : ℕ) → Given n → Refused c n
-  from-given n (inl x) = by (x .0) (hse (x .1))
-  from-given n (inr (inl (inl x))) = by (x .0) (hclk (x .1))
-  from-given n (inr (inl (inr (inl x)))) = by (x .0) (sysclk (x .1))
-  from-given n (inr (inl (inr (inr (inl x))))) = by (x .0) (pclk1 (x .1))
-  from-given n (inr (inl (inr (inr (inr x))))) = by (x .0) (pclk2 (x .1))
-  from-given n (inr (inr (inl (inl x)))) = by (x .0) (pllm (x .1))
-  from-given n (inr (inr (inl (inr (inl x))))) = by (x .0) (plln (x .1))
-  from-given n (inr (inr (inl (inr (inr x))))) = by (x .0) (pllq (x .1))
-  from-given n (inr (inr (inr (inl (inl x))))) = by (x .0) (pllsain (x .1))
-  from-given n (inr (inr (inr (inl (inr x))))) = by (x .0) (pllsaiq (x .1))
-  from-given n (inr (inr (inr (inr (inl x))))) = by (x .0) (plli2sn (x .1))
-  from-given n (inr (inr (inr (inr (inr (inl x)))))) = by (x .0) (plli2sr (x .1))
-  from-given n (inr (inr (inr (inr (inr (inr x)))))) = by (x .0) (plli2sq (x .1))
+  from-given n (inl (e, x)) = by e (hse x)
+  from-given n (inr (inl x)) = from-requests n x
+  from-given n (inr (inr (inl x))) = from-pll n x
+  from-given n (inr (inr (inr (inl x)))) = from-sai n x
+  from-given n (inr (inr (inr (inr x)))) = from-i2s n x
 
-  -- the check is the least number that the table gives, or 0 where it gives none
-  pub check-least : Least c (checkOf c)
-  check-least = at (checkOf c) covers
+  -- the check is the first in turn of the numbers that the table gives, or 0 where it gives none
+  pub check-first : First (Refused c) (checkOf c)
+  check-first = at (checkOf c) covers
     where
-      at : (a : ℕ) → Covers (HseWithin (c .sources .hse) × (Requests × (Pll × (Sai × I2s)))) Given 1 6 a → Least c a
+      at : (a : ℕ) → Covers All Given (turnOf 1) (turnOf 6) a → First (Refused c) a
       at zero v = none (λ n r. v .none-given (v .kept refl) n (to-given n r))
-      at (suc k) v = least (from-given (suc k) (v .given (omega arith))) (λ n r. v .least-given (omega arith) n (to-given n r))
+      at (suc k) v = first (from-given (suc k) (v .given (omega arith))) (λ n r. v .first-given (omega arith) n (to-given n r))
 
-  -- so it is n exactly if n is the least number given
-  pub check-refuses-exactly : (n : ℕ) → (checkOf c ≡ n) ↔ Least c n
-  check-refuses-exactly n = exactly check-least
+  -- so it is n exactly if n is the first in turn of those given
+  pub check-refuses-exactly : (n : ℕ) → (checkOf c ≡ n) ↔ First (Refused c) n
+  check-refuses-exactly n = exactly check-first
 
-  -- it is at most 6
-  pub check-le : checkOf c ≤ 6
-  check-le = at (checkOf c) covers
+  -- the table gives no number but those of its list
+  pub limit-number : (n : ℕ) → Refused c n → OneOf limitNumbers n
+  limit-number n (hse x) = tt
+  limit-number n (hclk x) = tt
+  limit-number n (sysclk x) = tt
+  limit-number n (pclk1 x) = tt
+  limit-number n (pclk2 x) = tt
+  limit-number n (pllm x) = tt
+  limit-number n (plln x) = tt
+  limit-number n (pllq x) = tt
+  limit-number n (pllsain x) = tt
+  limit-number n (pllsaiq x) = tt
+  limit-number n (plli2sn x) = tt
+  limit-number n (plli2sr x) = tt
+  limit-number n (plli2sq x) = tt
+
+  -- so the check gives no other but 0
+  pub check-gives-only : OneOf (0 ∷ limitNumbers) (checkOf c)
+  check-gives-only = from (given-only check-first)
     where
-      at : (a : ℕ) → Covers (HseWithin (c .sources .hse) × (Requests × (Pll × (Sai × I2s)))) Given 1 6 a → a ≤ 6
-      at zero v = omega arith
-      at (suc k) v = v .high (suc k) (v .given (omega arith))
+      from : (checkOf c ≡ 0) ⊎ Refused c (checkOf c) → OneOf (0 ∷ limitNumbers) (checkOf c)
+      from (inl e) = rw e tt
+      from (inr r) = wider limitNumbers (0 ∷ limitNumbers) tt (checkOf c) (limit-number (checkOf c) r)
 
   -- it is 0 exactly where every limit is kept
   pub check-told : checkOf c ≡ 0 → Checked c
-  check-told e =
-      let w = covers .kept e in
-      let q = w .1 .0 in
-      let p = w .1 .1 .0 in
-      let s = w .1 .1 .1 .0 in
-      let i = w .1 .1 .1 .1 in
-      record {
-        hse = w .0;
-        requests = record { hclk = q .0; sysclk = q .1 .0; pclk1 = q .1 .1 .0; pclk2 = q .1 .1 .1 };
-        pll = record { m = p .0; n = p .1 .0; q = p .1 .1 };
-        sai = record { n = s .0; q = s .1 };
-        i2s = record { n = i .0; r = i .1 .0; q = i .1 .1 };
+  check-told e = told (covers .kept e)
+    where
+      told : All → Checked c
+      told (h, ((bus, (core, (one, two))), ((m, (n, q)), ((sai-n, sai-q), (i2s-n, (i2s-r, i2s-q)))))) = record {
+        hse = h;
+        requests = record { hclk = bus; sysclk = core; pclk1 = one; pclk2 = two };
+        pll = record { m = m; n = n; q = q };
+        sai = record { n = sai-n; q = sai-q };
+        i2s = record { n = i2s-n; r = i2s-r; q = i2s-q };
       }
 
-  kept-all : Checked c → HseWithin (c .sources .hse) × (Requests × (Pll × (Sai × I2s)))
+  kept-all : Checked c → All
   kept-all w =
       let q = w .requests in
       let p = w .pll in
@@ -297,6 +334,6 @@ module _ (c : CFGR) where
   pub told-check : Checked c → checkOf c ≡ 0
   told-check w = at (checkOf c) covers
     where
-      at : (a : ℕ) → Covers (HseWithin (c .sources .hse) × (Requests × (Pll × (Sai × I2s)))) Given 1 6 a → a ≡ 0
+      at : (a : ℕ) → Covers All Given (turnOf 1) (turnOf 6) a → a ≡ 0
       at zero v = refl
       at (suc k) v = absurd (v .none-given (kept-all w) (suc k) (v .given (omega arith)))

@@ -3,4 +3,5 @@ pub mod Config
 pub mod Codes
 pub mod Limits
 pub mod Setters
+pub mod Turns
 pub mod Table

@@ -63,7 +63,7 @@ abbrev pub askedRefusal : (Hertz → ℕ) → Request → ℕ
 askedRefusal limit NoRequest = 0
 askedRefusal limit (At f) = limit f
 
--- several at once: the least number; the parts below stand in the order of their numbers
+-- several at once: the first in turn; the parts below stand in the order of their turns
 unfoldable pub firstOf : ℕ → ℕ → ℕ
 firstOf a b = cond (eqb a 0) b a
 

@@ -1,6 +1,7 @@
--- Document 01's table of refusals, 1 to 6, as facts: when a number is given, which is the least, and what a configuration holds that none refuses.
+-- Document 01's table of refusals, 1 to 6, as facts: when a number is given, which can be, and what a configuration holds that none refuses.
 use Prim.Native.Nat.{ℕ, _≤_, _<_}
 use mathlib.Core.Logic.{_⊎_}
+use mathlib.Core.List.{List, [], _∷_}
 use Rattle.kinds.specs.declared.CFGR.{CFGR}
 use Rattle.kinds.specs.declared.Requests.{Requests}
 use Rattle.kinds.specs.declared.Pll.{Pll}
@@ -55,13 +56,9 @@ pub data Refused (c : CFGR) : ℕ → Type 0 where
   plli2sr : Outside 2 7 (c .i2s .r .0) → Refused c 6
   plli2sq : Outside 2 15 (c .i2s .q .0) → Refused c 6
 
--- n is the least number that is given, or 0 where none is
-pub data LeastOf (Given : ℕ → Type 0) : ℕ → Type 0 where
-  none : ((n : ℕ) → Given n → ⊥) → LeastOf Given 0
-  least : {n : ℕ} → Given n → ((k : ℕ) → Given k → n ≤ k) → LeastOf Given n
-
-abbrev pub Least : CFGR → ℕ → Type 0
-Least c = LeastOf (Refused c)
+-- the numbers that it can give
+abbrev pub limitNumbers : List ℕ
+limitNumbers = 1 ∷ 2 ∷ 3 ∷ 4 ∷ 5 ∷ 6 ∷ []
 
 -- every limit kept, by groups
 pub record RequestsWithin (q : Requests) : Type 0 where

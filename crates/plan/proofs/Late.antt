@@ -1,4 +1,4 @@
--- `limitsOf` is the least of 9 to 11 that is given: first PLLSAI, then PLLI2S, then both.
+-- `limitsOf` is the first in turn of 9 to 11 that are given: first PLLSAI, then PLLI2S, then both.
 use Prim.Native.Nat.{ℕ, _/_, _≤_}
 use mathlib.Core.Path.{_≡_, refl}
 use mathlib.Core.Logic.{inl, inr}
@@ -7,11 +7,12 @@ use native.Mathlib.Omega.{arith}
 use Rattle.kinds.specs.Config.{inputOf}
 use Rattle.kinds.specs.Codes.{pDividerOf}
 use Rattle.kinds.specs.Limits.{outsideOf, firstOf}
-use Rattle.kinds.specs.Table.{Between, Outside, LeastOf, none, least}
+use Rattle.kinds.specs.Table.{Between, Outside}
+use Rattle.kinds.specs.Turns.{turnOf, First, none, first, OneOf}
 use Rattle.kinds.proofs.Check.{Told, inside, broken, outside-told}
 use Rattle.kinds.specs.declared.CFGR.{CFGR}
 use Rattle.plan.specs.Plan.{saiLate, i2sLate, limitsOf}
-use Rattle.plan.specs.Refusals.{roughIn, SaiVco, SaiP, I2sVco, Late, sai-vco, sai-p, i2s-vco}
+use Rattle.plan.specs.Refusals.{roughIn, SaiVco, SaiP, I2sVco, Late, sai-vco, sai-p, i2s-vco, lateNumbers}
 
 unused : (t : Bool) → t ≡ false → t ≡ true → ⊥
 unused t a b = let z : _≡_ {A = ℕ} 0 1 = cc in omega arith
@@ -59,33 +60,39 @@ module _ (d : CFGR) where
       from true u = at u _ (outside-told 192000000 432000000 11 i2sVco)
       from false u = fine (λ x. unused (d .i2s .use_plli2s) u (x .0))
 
-  both : (a b : ℕ) → SaiView a → I2sView b → LeastOf (Late d) (firstOf a b)
-  unfolding firstOf
+  both : (a b : ℕ) → SaiView a → I2sView b → First (Late d) (firstOf a b)
+  unfolding firstOf turnOf
   both a b (fine f g) (fine h) = none (λ n x. from n x)
     where
       from : (n : ℕ) → Late d n → ⊥
       from n (sai-vco x) = f x
       from n (sai-p x) = g x
       from n (i2s-vco x) = h x
-  both a b (fine f g) (vco x) = least (i2s-vco x) (λ n y. from n y)
+  both a b (fine f g) (vco x) = first (i2s-vco x) (λ n y. from n y)
     where
-      from : (n : ℕ) → Late d n → 11 ≤ n
+      from : (n : ℕ) → Late d n → turnOf 11 ≤ turnOf n
       from n (sai-vco x) = absurd (f x)
       from n (sai-p x) = absurd (g x)
       from n (i2s-vco x) = omega arith
-  both a b (vco x) y = least (sai-vco x) (λ n z. from n z)
+  both a b (vco x) y = first (sai-vco x) (λ n z. from n z)
     where
-      from : (n : ℕ) → Late d n → 9 ≤ n
+      from : (n : ℕ) → Late d n → turnOf 9 ≤ turnOf n
       from n (sai-vco x) = omega arith
       from n (sai-p x) = omega arith
       from n (i2s-vco x) = omega arith
-  both a b (above f x) y = least (sai-p x) (λ n z. from n z)
+  both a b (above f x) y = first (sai-p x) (λ n z. from n z)
     where
-      from : (n : ℕ) → Late d n → 10 ≤ n
+      from : (n : ℕ) → Late d n → turnOf 10 ≤ turnOf n
       from n (sai-vco x) = absurd (f x)
       from n (sai-p x) = omega arith
       from n (i2s-vco x) = omega arith
 
-  pub late-least : LeastOf (Late d) (limitsOf d)
+  -- each of them is one of its list
+  pub late-number : (n : ℕ) → Late d n → OneOf lateNumbers n
+  late-number n (sai-vco x) = tt
+  late-number n (sai-p x) = tt
+  late-number n (i2s-vco x) = tt
+
+  pub late-first : First (Late d) (limitsOf d)
   unfolding limitsOf
-  late-least = both _ _ sai-view i2s-view
+  late-first = both _ _ sai-view i2s-view

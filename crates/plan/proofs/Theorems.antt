@@ -3,12 +3,15 @@ use Prim.Native.Nat.{ℕ, _/_, _≤_, _<_}
 use mathlib.Core.Path.{_≡_, refl, sym, _∙_, ap, subst}
 use mathlib.Core.Logic.{_⊎_, inl, inr, _↔_}
 use mathlib.Core.Bool.{Bool, true, false, cond}
-use lib.Dec.{eqb}
+use mathlib.Core.List.{[], _∷_}
+use lib.Dec.{T, eqb}
 use native.Mathlib.Omega.{arith}
 use native.Mathlib.Nat.{div-le-of-le-mul}
 use Rattle.kinds.specs.Limits.{checkOf}
-use Rattle.kinds.specs.Table.{Between, Refused as Given, LeastOf, Least, none, least}
-use Rattle.kinds.proofs.Check.{exactly, kept-none, check-least, check-le}
+use Rattle.kinds.specs.Table.{Refused as Given, limitNumbers}
+use Rattle.kinds.specs.Turns.{turnOf, First, none, first, OneOf}
+use Rattle.kinds.proofs.Turns.{exactly, given-only, wider, ahead, in-order, none-is}
+use Rattle.kinds.proofs.Check.{kept-none, check-first, limit-number}
 use Rattle.kinds.specs.declared.CFGR.{CFGR}
 use Rattle.pll.proofs.Dividers.{split}
 use Rattle.pll.specs.Outputs.{pOutputOf}
@@ -24,10 +27,10 @@ use Rattle.clocks.specs.declared.InternalRCCConfig.{InternalRCCConfig}
 use Rattle.clocks.specs.declared.Derived.{Derived}
 use Rattle.clocks.specs.declared.Derived.the-variants.{Refused as NotDerived, At}
 use Rattle.plan.specs.Plan.{limitsOf, limitedOf, clockedOf, plannedOf, planOf, numberOf, passesOf}
-use Rattle.plan.specs.Refusals.{roughIn, Late, sai-vco, sai-p, i2s-vco, PlanRefused, limit, search, late}
+use Rattle.plan.specs.Refusals.{roughIn, Late, i2s-vco, lateNumbers, PlanRefused, limit, search, late, planNumbers}
 use Rattle.plan.specs.declared.Planned.{Planned}
 use Rattle.plan.specs.declared.Planned.the-variants.{Refused, Ready}
-use Rattle.plan.proofs.Late.{late-least}
+use Rattle.plan.proofs.Late.{late-number, late-first}
 use Rattle.plan.proofs.View.{PlanView, refused, missed, limited, ready, planned-derived, plan-view, plan-of}
 
 -- ---- which number it is
@@ -38,63 +41,69 @@ planned-only c d k e n (search s g) =
     absurd (let h = refuses-with-7-exactly c .1 (s, g) in let z : _≡_ {A = ℕ} 0 7 = sym (ap (λ (r : Configured). configuredNumber r) e) ∙ h in omega arith)
 planned-only c d k e n (late {d = f} y l) = let g : f ≡ d = cc in subst (λ (z : CFGR). Late z n) g l
 
-late-low : (d : CFGR) (n : ℕ) → Late d n → Between 9 11 n
-late-low d n (sai-vco x) = record { low = omega arith; high = omega arith }
-late-low d n (sai-p x) = record { low = omega arith; high = omega arith }
-late-low d n (i2s-vco x) = record { low = omega arith; high = omega arith }
+-- 7 comes after the numbers of the check, and before 9 to 11
+limits-ahead : T (ahead limitNumbers (7 ∷ lateNumbers))
+unfolding turnOf
+limits-ahead = tt
 
--- the number is the least that the table gives for plan, and 0 exactly where it gives none
-pub plan-least : (c : CFGR) → LeastOf (PlanRefused c) (numberOf (planOf c))
-plan-least c = from (planOf c) (plan-view c)
+search-ahead : T (ahead (7 ∷ []) lateNumbers)
+unfolding turnOf
+search-ahead = tt
+
+-- the number is the first in turn of those that the table gives for plan, and 0 exactly where it gives none
+pub plan-first : (c : CFGR) → First (PlanRefused c) (numberOf (planOf c))
+plan-first c = from (planOf c) (plan-view c)
   where
-    below : (a : ℕ) → a ≤ 6 → ((k : ℕ) → Given c k → a ≤ k) → (k : ℕ) → PlanRefused c k → a ≤ k
-    below a l f k (limit r) = f k r
-    below a l f k (search s g) = omega arith
-    below a l f k (late {d = d} y x) = omega (arith, late-low d k x .low)
+    before : (a : ℕ) → Given c a → ((k : ℕ) → Given c k → turnOf a ≤ turnOf k) → (k : ℕ) → PlanRefused c k → turnOf a ≤ turnOf k
+    before a r f k (limit s) = f k s
+    before a r f k (search s g) = in-order limitNumbers (7 ∷ lateNumbers) limits-ahead a 7 (limit-number c a r) tt
+    before a r f k (late {d = d} y x) =
+        in-order limitNumbers (7 ∷ lateNumbers) limits-ahead a k (limit-number c a r) (wider lateNumbers (7 ∷ lateNumbers) tt k (late-number d k x))
 
-    limits : (a : ℕ) → Least c a → a ≤ 6 → (a ≡ 0 → ⊥) → LeastOf (PlanRefused c) a
-    limits a (none f) l n = absurd (n refl)
-    limits a (least r f) l n = least (limit r) (below a l f)
+    limits : (a : ℕ) → First (Given c) a → (a ≡ 0 → ⊥) → First (PlanRefused c) a
+    limits a (none f) n = absurd (n refl)
+    limits a (first r f) n = first (limit r) (before a r f)
 
-    unfound : Seeks c → (k : ℕ) → PlanRefused c k → 7 ≤ k
+    unfound : Seeks c → (k : ℕ) → PlanRefused c k → turnOf 7 ≤ turnOf k
     unfound s k (limit r) = absurd (kept-none c (s .checked) k r)
     unfound s k (search t g) = omega arith
-    unfound s k (late {d = d} y x) = omega (arith, late-low d k x .low)
+    unfound s k (late {d = d} y x) = in-order (7 ∷ []) lateNumbers search-ahead 7 k tt (late-number d k x)
 
-    lates : (d : CFGR) (k : ℕ) → Settles c d k → (a : ℕ) → LeastOf (Late d) a → LeastOf (PlanRefused c) a
+    lates : (d : CFGR) (k : ℕ) → Settles c d k → (a : ℕ) → First (Late d) a → First (PlanRefused c) a
     lates d k e a (none f) = none (λ n r. f n (planned-only c d k e n r))
-    lates d k e a (least x f) = least (late e x) (λ n r. f n (planned-only c d k e n r))
+    lates d k e a (first x f) = first (late e x) (λ n r. f n (planned-only c d k e n r))
 
-    from : (p : Planned) → PlanView c p → LeastOf (PlanRefused c) (numberOf p)
-    from p (refused z) = limits (checkOf c) (check-least c) (check-le c) z
-    from p (missed s g) = least (search s g) (unfound s)
-    from p (limited {d = d} {k = k} e z) = lates d k e (limitsOf d) (late-least d)
-    from p (ready {d = d} {k = k} e z) = lates d k e 0 (subst (λ (n : ℕ). LeastOf (Late d) n) z (late-least d))
+    from : (p : Planned) → PlanView c p → First (PlanRefused c) (numberOf p)
+    from p (refused z) = limits (checkOf c) (check-first c) z
+    from p (missed s g) = first (search s g) (unfound s)
+    from p (limited {d = d} {k = k} e z) = lates d k e (limitsOf d) (late-first d)
+    from p (ready {d = d} {k = k} e z) = lates d k e 0 (subst (λ (n : ℕ). First (Late d) n) z (late-first d))
 
--- so it is n exactly if n is the least number given
-pub plan-refuses-exactly : (c : CFGR) (n : ℕ) → (numberOf (planOf c) ≡ n) ↔ LeastOf (PlanRefused c) n
-plan-refuses-exactly c n = exactly (plan-least c)
+-- so it is n exactly if n is the first in turn of those given
+pub plan-refuses-exactly : (c : CFGR) (n : ℕ) → (numberOf (planOf c) ≡ n) ↔ First (PlanRefused c) n
+plan-refuses-exactly c n = exactly (plan-first c)
+
+-- where 9 to 11 come to 0, none of them is given
+unlimited : (d : CFGR) (a : ℕ) → First (Late d) a → a ≡ 0 → (n : ℕ) → Late d n → ⊥
+unlimited d a (none f) z n l = f n l
+unlimited d a (first x f) z n l = none-is 0 lateNumbers tt a (late-number d a x) z
 
 -- it accepts exactly if pll_configure settles the main PLL and none of 9 to 11 is given; a plan is handed back then, and only then
 pub plan-accepts-exactly : (c : CFGR) → (numberOf (planOf c) ≡ 0) ↔ ((d : CFGR) × (k : ℕ) × Settles c d k × ((n : ℕ) → Late d n → ⊥))
 plan-accepts-exactly c = (λ e. forth (planOf c) (plan-view c) e, λ w. back (w .0) (w .1) (w .2) (w .3))
   where
-    unlimited : (d : CFGR) (a : ℕ) → LeastOf (Late d) a → a ≡ 0 → (n : ℕ) → Late d n → ⊥
-    unlimited d a (none f) z = f
-    unlimited d a (least l f) z = absurd (omega (arith, late-low d a l .low))
-
-    zero : (d : CFGR) (a : ℕ) → LeastOf (Late d) a → ((n : ℕ) → Late d n → ⊥) → a ≡ 0
+    zero : (d : CFGR) (a : ℕ) → First (Late d) a → ((n : ℕ) → Late d n → ⊥) → a ≡ 0
     zero d a (none f) g = refl
-    zero d a (least l f) g = absurd (g a l)
+    zero d a (first l f) g = absurd (g a l)
 
     forth : (p : Planned) → PlanView c p → numberOf p ≡ 0 → (d : CFGR) × (k : ℕ) × Settles c d k × ((n : ℕ) → Late d n → ⊥)
     forth p (refused z) e = absurd (z e)
     forth p (missed s g) e = absurd (omega arith)
     forth p (limited a z) e = absurd (z e)
-    forth p (ready {d = d} {k = k} a z) e = (d, k, a, unlimited d (limitsOf d) (late-least d) z)
+    forth p (ready {d = d} {k = k} a z) e = (d, k, a, unlimited d (limitsOf d) (late-first d) z)
 
     back : (d : CFGR) (k : ℕ) → Settles c d k → ((n : ℕ) → Late d n → ⊥) → numberOf (planOf c) ≡ 0
-    back d k a f = ap (λ (p : Planned). numberOf p) (plan-of c d k a (zero d (limitsOf d) (late-least d) f))
+    back d k a f = ap (λ (p : Planned). numberOf p) (plan-of c d k a (zero d (limitsOf d) (late-first d) f))
 
 -- a refusal has a number that is not 0
 pub refused-is-not-0 : (c : CFGR) (n k : ℕ) → planOf c ≡ Refused n k → n ≡ 0 → ⊥
@@ -109,26 +118,23 @@ refused-is-not-0 c n k e z = from (planOf c) (plan-view c) e
     from p (limited a b) h = b (number h ∙ z)
     from p (ready a b) h = let y : _≡_ {A = ℕ} 0 1 = cc in omega arith
 
--- a plan never gives 8: its numbers are 0 to 7 and 9 to 11
-pub plan-gives-only : (c : CFGR) → (numberOf (planOf c) ≤ 7) ⊎ Between 9 11 (numberOf (planOf c))
-plan-gives-only c = from (planOf c) (plan-view c)
+-- the table gives no number for plan but those of its list
+plan-number : (c : CFGR) (n : ℕ) → PlanRefused c n → OneOf planNumbers n
+plan-number c n (limit r) = wider limitNumbers planNumbers tt n (limit-number c n r)
+plan-number c n (search s g) = tt
+plan-number c n (late {d = d} e x) = wider lateNumbers planNumbers tt n (late-number d n x)
+
+-- so plan gives no other but 0
+pub plan-gives-only : (c : CFGR) → OneOf (0 ∷ planNumbers) (numberOf (planOf c))
+plan-gives-only c = from (numberOf (planOf c)) (given-only (plan-first c))
   where
-    lates : (d : CFGR) (a : ℕ) → LeastOf (Late d) a → (a ≡ 0 → ⊥) → Between 9 11 a
-    lates d a (none f) z = absurd (z refl)
-    lates d a (least x f) z = late-low d a x
+    from : (n : ℕ) → (n ≡ 0) ⊎ PlanRefused c n → OneOf (0 ∷ planNumbers) n
+    from n (inl e) = rw e tt
+    from n (inr r) = wider planNumbers (0 ∷ planNumbers) tt n (plan-number c n r)
 
-    from : (p : Planned) → PlanView c p → (numberOf p ≤ 7) ⊎ Between 9 11 (numberOf p)
-    from p (refused z) = inl (let h = check-le c in omega arith)
-    from p (missed s g) = inl (omega arith)
-    from p (limited {d = d} e z) = inr (lates d (limitsOf d) (late-least d) z)
-    from p (ready e z) = inl (omega arith)
-
+-- a plan never gives 8
 pub never-8 : (c : CFGR) → numberOf (planOf c) ≡ 8 → ⊥
-never-8 c e = from (plan-gives-only c)
-  where
-    from : (numberOf (planOf c) ≤ 7) ⊎ Between 9 11 (numberOf (planOf c)) → ⊥
-    from (inl h) = omega arith
-    from (inr h) = omega (arith, h .low)
+never-8 c e = none-is 8 (0 ∷ planNumbers) tt (numberOf (planOf c)) (plan-gives-only c) e
 
 -- the passes are those of pll_configure, whatever the plan answers
 pub passes-are-configure's : (c : CFGR) → passesOf (planOf c) ≡ configuredPasses (configuredOf c)
@@ -216,12 +222,8 @@ module _ (c d : CFGR) (k : ℕ) (x : Clocks) (y : InternalRCCConfig) (e : planOf
   i2s-high : d .i2s .use_plli2s ≡ true → roughIn d (d .i2s .n .0) ≤ 432000000
   i2s-high u = from (split 432000000 (roughIn d (d .i2s .n .0)))
     where
-      unlimited : (a : ℕ) → LeastOf (Late d) a → a ≡ 0 → Late d 11 → ⊥
-      unlimited a (none f) z l = f 11 l
-      unlimited a (least l f) z m = omega (arith, late-low d a l .low)
-
       from : (432000000 < roughIn d (d .i2s .n .0)) ⊎ (roughIn d (d .i2s .n .0) ≤ 432000000) → roughIn d (d .i2s .n .0) ≤ 432000000
-      from (inl h) = absurd (unlimited (limitsOf d) (late-least d) (made .unlimited) (i2s-vco (u, inr h)))
+      from (inl h) = absurd (unlimited d (limitsOf d) (late-first d) (made .unlimited) 11 (i2s-vco (u, inr h)))
       from (inr h) = h
 
   pub i2s-outputs : d .i2s .use_plli2s ≡ true → (roughIn d (d .i2s .n .0) / d .i2s .r .0 ≤ 216000000) × (roughIn d (d .i2s .n .0) / d .i2s .q .0 ≤ 216000000)

@@ -35,7 +35,7 @@ saiLate f m s =
 unfoldable pub i2sLate : ℕ → ℕ → I2s → ℕ
 i2sLate f m i = cond (i .use_plli2s) (outsideOf 192000000 432000000 11 (roughOf f m (i .n .0))) 0
 
--- several at once: the least number
+-- several at once: the first in turn
 unfoldable pub limitsOf : CFGR → ℕ
 limitsOf c = firstOf (saiLate (inputOf (c .sources .hse)) (c .pll .m .0) (c .sai)) (i2sLate (inputOf (c .sources .hse)) (c .pll .m .0) (c .i2s))
 

@@ -1,12 +1,13 @@
--- Document 01's table of refusals as far as plan goes: when it gives a number; of several, the least is answered (`LeastOf`).
+-- Document 01's table of refusals as far as plan goes: when it gives a number; of several, the first in turn is answered (`First`).
 use Prim.Native.Nat.{ℕ, _/_, _<_}
 use mathlib.Core.Path.{_≡_}
 use mathlib.Core.Bool.{true}
+use mathlib.Core.List.{List, [], _∷_, _++_}
 use Rattle.kinds.specs.Config.{inputOf}
 use Rattle.kinds.specs.Codes.{pDividerOf}
 use Rattle.kinds.specs.Table.{Outside, Refused}
 use Rattle.kinds.specs.declared.CFGR.{CFGR}
-use Rattle.configure.specs.Ways.{Seeks, NoneGood, Settles}
+use Rattle.configure.specs.Ways.{Seeks, NoneGood, configureNumbers, Settles}
 use Rattle.plan.specs.Plan.{roughOf}
 
 -- floor(input/M) × N of a configuration as planned
@@ -30,8 +31,16 @@ pub data Late (d : CFGR) : ℕ → Type 0 where
   sai-p : SaiP d → Late d 10
   i2s-vco : I2sVco d → Late d 11
 
+-- the numbers that this can be
+abbrev pub lateNumbers : List ℕ
+lateNumbers = 9 ∷ 10 ∷ 11 ∷ []
+
 -- 1 to 6 as the table has them; 7: the search has no answer; 9 to 11 with the M planned
 pub data PlanRefused (c : CFGR) : ℕ → Type 0 where
   limit : {n : ℕ} → Refused c n → PlanRefused c n
   search : Seeks c → NoneGood c → PlanRefused c 7
   late : {d : CFGR} {k n : ℕ} → Settles c d k → Late d n → PlanRefused c n
+
+-- the numbers that plan can give
+abbrev pub planNumbers : List ℕ
+planNumbers = configureNumbers ++ lateNumbers

@@ -1,20 +1,22 @@
 -- Which number a start answers with, and that a refusal but 12 stores nothing: read off how a start comes about and off the plan's own theorems.
-use Prim.Native.Nat.{ℕ, _≤_}
+use Prim.Native.Nat.{ℕ}
 use native.Mathlib.Omega.{arith}
-use mathlib.Core.Path.{_≡_, refl, sym, _∙_, ap}
+use mathlib.Core.Path.{_≡_, refl, sym, _∙_, ap, subst}
 use mathlib.Core.Logic.{_⊎_, inl, inr, _↔_}
-use mathlib.Core.List.{List}
-use Rattle.kinds.specs.Table.{Between, Outside, LeastOf}
+use mathlib.Core.List.{List, _∷_}
+use Rattle.kinds.specs.Table.{Between, Outside}
+use Rattle.kinds.specs.Turns.{First, OneOf}
+use Rattle.kinds.proofs.Turns.{wider, none-is}
 use Rattle.kinds.specs.declared.CFGR.{CFGR}
 use Rattle.clocks.specs.declared.Clocks.{Clocks}
 use Rattle.clocks.specs.declared.InternalRCCConfig.{InternalRCCConfig}
 use Rattle.plan.specs.Plan.{planOf, numberOf as planNumber}
-use Rattle.plan.specs.Refusals.{PlanRefused}
+use Rattle.plan.specs.Refusals.{PlanRefused, planNumbers}
 use Rattle.plan.specs.declared.Planned.{Planned}
 use Rattle.plan.specs.declared.Planned.the-variants.{Refused as NotPlanned, Ready}
 use Rattle.plan.proofs.Theorems.{plan-refuses-exactly, plan-gives-only}
 use Rattle.startup.specs.Order.{opsOf}
-use Rattle.startup.specs.Start.{Ending, at-end, at-cut, at-wait, walk, outcomeOf, startOf, numberOf}
+use Rattle.startup.specs.Start.{Ending, at-end, at-cut, at-wait, walk, outcomeOf, startOf, startNumbers, numberOf}
 use Rattle.startup.specs.Cuts.{Leaves, before, Silent}
 use Rattle.startup.specs.declared.Outcome.the-variants.{Unanswered}
 use Rattle.startup.specs.declared.Started.{Started}
@@ -29,16 +31,9 @@ walk-number x y at-end = inl refl
 walk-number x y at-cut = inl refl
 walk-number x y (at-wait k) = inr refl
 
--- a plan gives neither 12 nor 13
-plan-gives : (c : CFGR) (n k : ℕ) → planOf c ≡ NotPlanned n k → n ≤ 11
-plan-gives c n k e = from (plan-gives-only c)
-  where
-    is : planNumber (planOf c) ≡ n
-    is = ap (λ (p : Planned). planNumber p) e
-
-    from : (planNumber (planOf c) ≤ 7) ⊎ Between 9 11 (planNumber (planOf c)) → n ≤ 11
-    from (inl h) = let q = is in omega arith
-    from (inr h) = let q = is in omega (arith, h .high)
+-- a refusal of the plan has one of its numbers
+plan-gives : (c : CFGR) (n k : ℕ) → planOf c ≡ NotPlanned n k → OneOf (0 ∷ planNumbers) n
+plan-gives c n k e = subst (λ (z : ℕ). OneOf (0 ∷ planNumbers) z) (ap (λ (p : Planned). planNumber p) e) (plan-gives-only c)
 
 module _ (c : CFGR) (f : List ℕ) (lim : ℕ) (xs : List ℕ) (cut : ℕ) where
   -- 13 comes first: exactly if the poll limit lies outside 1..65,535
@@ -54,7 +49,7 @@ module _ (c : CFGR) (f : List ℕ) (lim : ℕ) (xs : List ℕ) (cut : ℕ) where
 
       forth : (r : Started) → StartView c f lim xs cut r → numberOf (r .outcome) ≡ 13 → Outside 1 65535 lim
       forth r (bad-limit o) e = o
-      forth r (not-planned {n = n} {k = k} b p) e = absurd (let h = plan-gives c n k p in omega arith)
+      forth r (not-planned {n = n} {k = k} b p) e = absurd (none-is 13 (0 ∷ planNumbers) tt n (plan-gives c n k p) e)
       forth r (ran {d = d} {x = x} {y = y} b p) e = absurd (walked x y (walk lim (opsOf d y) cut xs f .ending) e)
 
       back : (r : Started) → StartView c f lim xs cut r → Outside 1 65535 lim → numberOf (r .outcome) ≡ 13
@@ -62,9 +57,9 @@ module _ (c : CFGR) (f : List ℕ) (lim : ℕ) (xs : List ℕ) (cut : ℕ) where
       back r (not-planned b p) o = absurd (apart b o)
       back r (ran b p) o = absurd (apart b o)
 
-  -- then the plan's: a number but 0, 12 and 13 exactly if the limit is good and it is the least that the table gives for plan
+  -- then the plan's: a number but 0, 12 and 13 exactly if the limit is good and it is the first in turn that the table gives for plan
   pub plan's-exactly : (n : ℕ) → (n ≡ 0 → ⊥) → (n ≡ 12 → ⊥) → (n ≡ 13 → ⊥)
-      → (numberOf (startOf c f lim xs cut .outcome) ≡ n) ↔ (Between 1 65535 lim × LeastOf (PlanRefused c) n)
+      → (numberOf (startOf c f lim xs cut .outcome) ≡ n) ↔ (Between 1 65535 lim × First (PlanRefused c) n)
   plan's-exactly n z w t = (λ e. forth (startOf c f lim xs cut) (start-view c f lim xs cut) e, λ h. back (startOf c f lim xs cut) (start-view c f lim xs cut) (h .0) (plan-refuses-exactly c n .1 (h .1)))
     where
       walked : (x : Clocks) (y : InternalRCCConfig) (e : Ending) → numberOf (outcomeOf x y e) ≡ n → ⊥
@@ -74,7 +69,7 @@ module _ (c : CFGR) (f : List ℕ) (lim : ℕ) (xs : List ℕ) (cut : ℕ) where
           from (inl g) = z (sym h ∙ g)
           from (inr g) = w (sym h ∙ g)
 
-      forth : (r : Started) → StartView c f lim xs cut r → numberOf (r .outcome) ≡ n → Between 1 65535 lim × LeastOf (PlanRefused c) n
+      forth : (r : Started) → StartView c f lim xs cut r → numberOf (r .outcome) ≡ n → Between 1 65535 lim × First (PlanRefused c) n
       forth r (bad-limit o) e = absurd (t (sym e))
       forth r (not-planned b p) e = (b, plan-refuses-exactly c n .0 (ap (λ (q : Planned). planNumber q) p ∙ e))
       forth r (ran {d = d} {x = x} {y = y} b p) e = absurd (walked x y (walk lim (opsOf d y) cut xs f .ending) e)
@@ -84,20 +79,18 @@ module _ (c : CFGR) (f : List ℕ) (lim : ℕ) (xs : List ℕ) (cut : ℕ) where
       back r (not-planned h p) b e = sym (ap (λ (q : Planned). planNumber q) p) ∙ e
       back r (ran h p) b e = absurd (z (sym e ∙ ap (λ (q : Planned). planNumber q) p))
 
-  -- none is above 13: 14 is the record's
-  pub start-gives-only : numberOf (startOf c f lim xs cut .outcome) ≤ 13
+  -- and no other number: 14 is the record's
+  pub start-gives-only : OneOf (0 ∷ startNumbers) (numberOf (startOf c f lim xs cut .outcome))
   start-gives-only = from (startOf c f lim xs cut) (start-view c f lim xs cut)
     where
-      walked : (x : Clocks) (y : InternalRCCConfig) (e : Ending) → numberOf (outcomeOf x y e) ≤ 13
-      walked x y e = by (walk-number x y e)
-        where
-          by : (numberOf (outcomeOf x y e) ≡ 0) ⊎ (numberOf (outcomeOf x y e) ≡ 12) → numberOf (outcomeOf x y e) ≤ 13
-          by (inl h) = omega arith
-          by (inr h) = omega arith
+      walked : (x : Clocks) (y : InternalRCCConfig) (e : Ending) → OneOf (0 ∷ startNumbers) (numberOf (outcomeOf x y e))
+      walked x y at-end = tt
+      walked x y at-cut = tt
+      walked x y (at-wait k) = tt
 
-      from : (r : Started) → StartView c f lim xs cut r → numberOf (r .outcome) ≤ 13
-      from r (bad-limit o) = omega arith
-      from r (not-planned {n = n} {k = k} b p) = let h = plan-gives c n k p in omega arith
+      from : (r : Started) → StartView c f lim xs cut r → OneOf (0 ∷ startNumbers) (numberOf (r .outcome))
+      from r (bad-limit o) = tt
+      from r (not-planned {n = n} {k = k} b p) = wider (0 ∷ planNumbers) (0 ∷ startNumbers) tt n (plan-gives c n k p)
       from r (ran {d = d} {x = x} {y = y} b p) = walked x y (walk lim (opsOf d y) cut xs f .ending)
 
   -- refused otherwise than by 12: the file as it came, and no poll

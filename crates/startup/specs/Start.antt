@@ -8,6 +8,7 @@ use Rattle.kinds.specs.declared.CFGR.{CFGR}
 use Rattle.clocks.specs.declared.Clocks.{Clocks}
 use Rattle.clocks.specs.declared.InternalRCCConfig.{InternalRCCConfig}
 use Rattle.plan.specs.Plan.{planOf}
+use Rattle.plan.specs.Refusals.{planNumbers}
 use Rattle.plan.specs.declared.Planned.{Planned}
 use Rattle.plan.specs.declared.Planned.the-variants.{Refused as NotPlanned, Ready}
 use Rattle.startup.specs.Files.{writes}
@@ -89,6 +90,10 @@ limitOf lim = outsideOf 1 65535 13 lim
 -- configuration, file, poll limit, answers, cut. 13 comes first; a start plans for itself
 unfoldable pub startOf : CFGR → List ℕ → ℕ → List ℕ → ℕ → Started
 startOf c f lim xs cut = cond (eqb (limitOf lim) 0) (plannedStart (planOf c) f lim xs cut) (refusedOf (limitOf lim) f)
+
+-- the numbers that a start can be refused with: the plan's, 13, and 12
+abbrev pub startNumbers : List ℕ
+startNumbers = 12 ∷ 13 ∷ planNumbers
 
 -- document 01's number of an outcome, and the wait that 12 names
 abbrev pub numberOf : Outcome → ℕ

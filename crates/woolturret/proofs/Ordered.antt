@@ -3,16 +3,17 @@ use Prim.Native.Nat.{ℕ}
 use mathlib.Core.Path.{_≡_, refl}
 use mathlib.Core.Logic.{_⊎_, inl, inr, _↔_}
 use mathlib.Core.Bool.{Bool, true, false, cond}
-use mathlib.Core.List.{List}
+use mathlib.Core.List.{List, _∷_}
 use native.Mathlib.Omega.{arith}
 use lib.Dec.{eqb}
 use lib.ListN.{length}
 use borrow.Author.Tests.{eqb-true, eqb-false}
 use Rattle.kinds.specs.Table.{Between, Outside}
 use Rattle.kinds.specs.declared.CFGR.{CFGR}
+use Rattle.kinds.proofs.Turns.{none-is}
 use Rattle.kinds.proofs.Check.{Told, inside, broken, outside-told}
 use Rattle.startup.specs.Places.{PLACES}
-use Rattle.startup.specs.Start.{limitOf, startOf}
+use Rattle.startup.specs.Start.{limitOf, startOf, startNumbers}
 use Rattle.startup.specs.Start.{numberOf as outcomeNumber}
 use Rattle.startup.proofs.View.{apart}
 use Rattle.startup.proofs.Refusals.{thirteen-exactly, start-gives-only}
@@ -67,7 +68,7 @@ module _ (file : List ℕ) (lim : ℕ) (xs : List ℕ) (cut : ℕ) (clocks : Lis
     where
       bad : (y : Reading) → numbered y ≡ 14 → Bad y
       bad (Malformed fault) = λ e. inl (fault, refl)
-      bad (Config c) = by-places c (λ (n : ℕ). n ≡ 14 → Bad (Config c)) (λ l e. absurd (let h = start-gives-only c file lim xs cut in omega arith)) (λ n e. inr n)
+      bad (Config c) = by-places c (λ (n : ℕ). n ≡ 14 → Bad (Config c)) (λ l e. absurd (none-is 14 (0 ∷ startNumbers) tt _ (start-gives-only c file lim xs cut) e)) (λ n e. inr n)
 
       fourteen : (y : Reading) → Bad y → numbered y ≡ 14
       fourteen (Malformed fault) h = malformed-14 fault
