@@ -8,3 +8,4 @@ pub mod Table
 pub mod Deriving
 pub mod Caps
 pub mod Theorems
+pub mod Examples

@@ -4,4 +4,5 @@ pub mod Rows
 pub mod Derive
 pub mod Numbers
 pub mod Refusals
+pub mod Examples
 pub mod Inner

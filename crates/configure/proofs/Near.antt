@@ -1,9 +1,9 @@
--- How near the P output of what was found lies to the wanted SYSCLK: an output of a VCO 16 × V with P is 16 × floor(V / P), divider by divider.
-use Prim.Native.Nat.{ℕ, _+_, _-_, _*_, _/_, _≤_}
+-- How near the P output of what was found lies to the wanted SYSCLK: an output of a VCO 16 × V with P is 16 × floor(V / P), since r(P) is not below 2^30 / P.
+use Prim.Native.Nat.{ℕ, _+_, _-_, _*_, _≤_, _<_}
 use mathlib.Core.Path.{_≡_, refl, subst}
 use mathlib.Core.Logic.{_⊎_, inl, inr}
 use mathlib.Core.Bool.{Bool, true, false, cond}
-use lib.Dec.{eqb}
+use lib.Dec.{leb, leb→le, eqb, eqb→eq}
 use native.Mathlib.Omega.{arith}
 use Rattle.kinds.specs.Codes.{pDividerOf}
 use Rattle.kinds.specs.Config.{inputOf}
@@ -19,35 +19,27 @@ use Rattle.pll.specs.declared.Sought.{Sought}
 use Rattle.pll.specs.declared.Sought.the-variants.{Unasked, By}
 use Rattle.pll.specs.declared.Found.the-variants.{Pair}
 use Rattle.pll.specs.Outputs.{pOutputOf}
+use Rattle.pll.proofs.Reciprocal.{mul-le, out-floor, floor-near}
 use Rattle.configure.specs.Configure.{pllpOf, pWindowOf, withP, withQ, withMN, baseIn, wantedIn, pWindowIn}
 use Rattle.configure.specs.Ways.{Near, searchIn, gives}
-use Rattle.configure.proofs.Taking.{best, vco-found, taken-m, taken-n}
+use Rattle.configure.proofs.Taking.{among-passes, among-in, best, vco-found, taken-m, taken-n}
 
 -- ---- an output with P
-out-floor : (x d : ℕ) → x ≤ 27000000 → Among d pDividers → outOf (16 * x) d ≡ 16 * (x / d)
-unfolding outOf recipOf
-out-floor x d h (inl e) = rw e (omega arith)
-out-floor x d h (inr (inl e)) = rw e (omega arith)
-out-floor x d h (inr (inr (inl e))) = rw e (omega arith)
-out-floor x d h (inr (inr (inr (inl e)))) = rw e (omega arith)
-
--- cutting V / P to a whole number loses less than 15 hertz of 16 × V / P
-floor-near : (x d : ℕ) → Among d pDividers → (16 * (x / d) ≤ 16 * x / d) × (16 * x / d ≤ 16 * (x / d) + 14)
-floor-near x d (inl e) = rw e (omega arith, omega arith)
-floor-near x d (inr (inl e)) = rw e (omega arith, omega arith)
-floor-near x d (inr (inr (inl e))) = rw e (omega arith, omega arith)
-floor-near x d (inr (inr (inr (inl e)))) = rw e (omega arith, omega arith)
+-- r(P) of no P is below 2^30 / P
+p-recip : (d : ℕ) → Among d pDividers → 1073741824 ≤ d * recipOf d
+unfolding recipOf
+p-recip d a = leb→le _ _ (among-passes (λ (e : ℕ). leb 1073741824 (e * recipOf e)) pDividers tt d a)
 
 pllp-divider : (d : ℕ) → Among d pDividers → pDividerOf (pllpOf d) ≡ d
-pllp-divider d (inl e) = rw e
-pllp-divider d (inr (inl e)) = rw e
-pllp-divider d (inr (inr (inl e))) = rw e
-pllp-divider d (inr (inr (inr (inl e)))) = rw e
+pllp-divider d a = eqb→eq _ _ (among-passes (λ (e : ℕ). eqb (pDividerOf (pllpOf e)) e) pDividers tt d a)
 
 near-hit : (w x d : ℕ) → x ≤ 27000000 → Among d pDividers → Hits (w - 1) (w + 1) (16 * x) d → Near w (outOf (16 * x) d)
 near-hit w x d h a t =
-    let f = floor-near x d a in
-    let o = out-floor x d h a in
+    let b = among-in 2 8 pDividers tt d a in
+    let pos : 0 < d = omega (arith, b .low) in
+    let s : x * d ≤ 27000000 * 8 = mul-le 27000000 8 h (b .high) in
+    let f = floor-near x d pos (omega (arith, b .high)) in
+    let o = out-floor x d pos (omega arith) (p-recip d a) in
     record { above = omega (arith, f, o, t .high); below = omega (arith, f, o, t .low) }
 
 near-vco : (w v d : ℕ) → (x : ℕ) → v ≡ 16 * x → v ≤ 432000000 → Among d pDividers → Hits (w - 1) (w + 1) v d → Near w (outOf v d)

@@ -13,7 +13,7 @@ use Rattle.kinds.specs.declared.CFGR.{CFGR}
 use Rattle.kinds.specs.declared.Pll.{Pll}
 use Rattle.kinds.specs.declared.Divider.{Divider}
 use Rattle.kinds.specs.declared.Factor.{Factor}
-use Rattle.pll.specs.Fixed.{recipOf, vcoOf, outOf}
+use Rattle.pll.specs.Fixed.{inside, recipOf, vcoOf, outOf}
 use Rattle.pll.specs.Walk.{qDividers}
 use Rattle.pll.specs.Good.{Among, Chosen, Best}
 use Rattle.pll.specs.declared.Window.{Window}
@@ -61,10 +61,10 @@ module _ (l : Pll) (m : Divider) (n : Factor) where
   taken-q Unasked = refl
   taken-q (By d) = refl
 
--- ---- a divider of a list that lies in lo to hi
-abbrev allIn : ℕ → ℕ → List ℕ → Bool
-allIn lo hi [] = true
-allIn lo hi (d ∷ ds) = (leb lo d && leb d hi) && allIn lo hi ds
+-- ---- a test that each divider of a list passes
+abbrev allPass : (ℕ → Bool) → List ℕ → Bool
+allPass t [] = true
+allPass t (d ∷ ds) = t d && allPass t ds
 
 both-left : (a b : Bool) → T (a && b) → T a
 both-left true b t = tt
@@ -72,14 +72,15 @@ both-left true b t = tt
 both-right : (a b : Bool) → T (a && b) → T b
 both-right true b t = t
 
-among-in : (lo hi : ℕ) (ds : List ℕ) → T (allIn lo hi ds) → (d : ℕ) → Among d ds → Between lo hi d
-among-in lo hi [] t d a = absurd a
-among-in lo hi (e ∷ es) t d (inl a) =
-    let s = both-left (leb lo e && leb e hi) (allIn lo hi es) t in
-    let x = leb→le lo e (both-left (leb lo e) (leb e hi) s) in
-    let y = leb→le e hi (both-right (leb lo e) (leb e hi) s) in
-    record { low = omega arith; high = omega arith }
-among-in lo hi (e ∷ es) t d (inr a) = among-in lo hi es (both-right (leb lo e && leb e hi) (allIn lo hi es) t) d a
+pub among-passes : (t : ℕ → Bool) (ds : List ℕ) → T (allPass t ds) → (d : ℕ) → Among d ds → T (t d)
+among-passes t [] h d a = absurd a
+among-passes t (e ∷ es) h d (inl a) = rw a (both-left (t e) (allPass t es) h)
+among-passes t (e ∷ es) h d (inr a) = among-passes t es (both-right (t e) (allPass t es) h) d a
+
+pub among-in : (lo hi : ℕ) (ds : List ℕ) → T (allPass (λ (e : ℕ). inside lo hi e) ds) → (d : ℕ) → Among d ds → Between lo hi d
+among-in lo hi ds h d a =
+    let s = among-passes (λ (e : ℕ). inside lo hi e) ds h d a in
+    record { low = leb→le lo d (both-left (leb lo d) (leb d hi) s); high = leb→le d hi (both-right (leb lo d) (leb d hi) s) }
 
 q-in : (w : Window) (v : ℕ) (l : Pll) (y : Sought) → Chosen qDividers w v y → Between 2 15 (l .q .0) → Between 2 15 (withQ l y .q .0)
 q-in w v l Unasked h b = b

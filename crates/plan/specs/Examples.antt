@@ -1,19 +1,14 @@
--- Document 01's examples marked P, and its default record: each as what is asked for and what plan answers.
+-- Document 01's examples marked P, its default record, and one of ours, a Q search whose clock is not valid: each as what is asked for and what plan answers.
 use Prim.Native.Nat.{ℕ}
-use mathlib.Core.Bool.{Bool, true, false}
+use mathlib.Core.Bool.{true, false}
 use mathlib.Core.List.{List, [], _∷_}
-use Rattle.kinds.specs.Config.{inputOf, defaults}
-use Rattle.kinds.specs.Codes.{flagOf, pDividerOf}
-use Rattle.kinds.specs.declared.CFGR.{CFGR}
-use Rattle.kinds.specs.declared.HSEClock.{HSEClock}
-use Rattle.kinds.specs.declared.HSEClock.the-variants.{Absent as NoHse, Oscillator, Bypass}
-use Rattle.kinds.specs.declared.LSEClock.the-variants.{Absent as NoLse}
-use Rattle.kinds.specs.declared.Request.{Request}
-use Rattle.kinds.specs.declared.Request.the-variants.{Absent as NoRequest, At}
-use Rattle.kinds.specs.declared.Choice48.{Choice48}
+use Rattle.kinds.specs.Config.{inputOf}
+use Rattle.kinds.specs.Codes.{flagOf}
+use Rattle.kinds.specs.declared.HSEClock.the-variants.{Absent as NoHse}
+use Rattle.kinds.specs.declared.Request.the-variants.{Absent as NoRequest}
 use Rattle.kinds.specs.declared.Choice48.the-variants.{Absent as NoChoice, Pllq}
-use Rattle.kinds.specs.declared.PLLP.the-variants.{Div2}
 use Rattle.pll.specs.Fixed.{vcoOf, outOf}
+use Rattle.configure.specs.Examples.{settings, asks, hz, oscillator, bypass, Example, example}
 use Rattle.plan.specs.declared.Planned.{Planned}
 use Rattle.plan.specs.declared.Planned.the-variants.{Refused, Ready}
 
@@ -23,39 +18,11 @@ abbrev pub shown : Planned → List ℕ
 shown (Refused n k) = n ∷ k ∷ []
 shown (Ready c k x y) =
     0 ∷ k
-    ∷ flagOf (c .pll .use_pll) ∷ c .pll .m .0 ∷ c .pll .n .0 ∷ pDividerOf (c .pll .p) ∷ c .pll .q .0
-    ∷ outOf (vcoOf (inputOf (c .sources .hse)) (c .pll .n .0) (c .pll .m .0)) (c .pll .q .0)
+    ∷ settings (c .pll)
+    (outOf (vcoOf (inputOf (c .sources .hse)) (c .pll .n .0) (c .pll .m .0)) (c .pll .q .0)
     ∷ x .sysclk .0 ∷ x .hclk .0 ∷ x .pclk1 .0 ∷ x .pclk2 .0 ∷ x .timclk1 .0 ∷ x .timclk2 .0
     ∷ y .hpre ∷ y .ppre1 ∷ y .ppre2 ∷ y .«flash_waitstates» ∷ y .«vos_scale» ∷ flagOf (y .overdrive) ∷ flagOf (x .«pll48clk_valid»)
-    ∷ []
-
--- the Rust's defaults, with what an example asks for: HSE, SYSCLK, HCLK, PCLK1, `use_pll`, 48 MHz choice
-abbrev pub asks : HSEClock → Request → Request → Request → Bool → Choice48 → CFGR
-asks hse sysclk hclk pclk1 on choice =
-    record {
-      sources = record { hse = hse; lse = NoLse; lsi = false };
-      requests = record { hclk = hclk; sysclk = sysclk; pclk1 = pclk1; pclk2 = NoRequest };
-      pll = record { use_pll = on; pll48clk = choice; m = record { 0 = 2 }; n = record { 0 = 50 }; p = Div2; q = record { 0 = 2 } };
-      sai = defaults .sai;
-      i2s = defaults .i2s;
-      mco = defaults .mco;
-    }
-
-abbrev pub hz : ℕ → Request
-hz x = At (record { 0 = x })
-
-abbrev pub oscillator : ℕ → HSEClock
-oscillator x = Oscillator (record { 0 = x })
-
-abbrev pub bypass : ℕ → HSEClock
-bypass x = Bypass (record { 0 = x })
-
-pub record Example : Type 0 where
-  pub config : CFGR
-  pub answer : List ℕ
-
-abbrev example : CFGR → List ℕ → Example
-example c l = record { config = c; answer = l }
+    ∷ [])
 
 abbrev pub examples : List Example
 examples =
@@ -95,4 +62,7 @@ examples =
     -- request 12.5 MHz: 13.5 MHz
     ∷ example (asks NoHse (hz 216000000) NoRequest (hz 12500000) false NoChoice)
     (0 ∷ 223 ∷ 1 ∷ 8 ∷ 216 ∷ 2 ∷ 2 ∷ 216000000 ∷ 216000000 ∷ 216000000 ∷ 13500000 ∷ 108000000 ∷ 27000000 ∷ 216000000 ∷ 0 ∷ 7 ∷ 4 ∷ 7 ∷ 1 ∷ 1 ∷ 0 ∷ [])
+    -- ours: bypass 2,268,000 with Q sought: the search finds M 2, N 380, Q 9 after 53 passes; its 48 MHz output derives as 47,879,984, not valid
+    ∷ example (asks (bypass 2268000) NoRequest NoRequest NoRequest false Pllq)
+    (0 ∷ 53 ∷ 0 ∷ 2 ∷ 380 ∷ 2 ∷ 9 ∷ 47879984 ∷ 2268000 ∷ 2268000 ∷ 2268000 ∷ 2268000 ∷ 2268000 ∷ 2268000 ∷ 0 ∷ 0 ∷ 0 ∷ 0 ∷ 3 ∷ 0 ∷ 0 ∷ [])
     ∷ []

@@ -8,7 +8,7 @@ use clocks::calculate_clocks;
 use configure::Configured;
 use configure::pll_configure;
 use kinds::CFGR;
-use limits::limits;
+use limits::late_refusal;
 ghost use mathlib.Core.Path.{_≡_};
 ghost use Rattle.clocks.specs.Derive.{derivedOf};
 ghost use Rattle.plan.specs.Plan.{limitedOf, clockedOf, planOf};
@@ -56,7 +56,7 @@ fn clocked(cfgr: CFGR, passes: u32) -> Planned
             number: number,
             passes: passes,
         },
-        Derived::At { clocks, config } => limited(cfgr, passes, clocks, config, limits(cfgr)),
+        Derived::At { clocks, config } => limited(cfgr, passes, clocks, config, late_refusal(cfgr)),
     }
 }
 

@@ -66,7 +66,7 @@ fn i2s_late(input: Hertz, m: Divider, i2s: I2s) -> u8
 }
 
 // The least of 9 to 11 that a configuration as planned is refused with, or 0.
-pub(crate) fn limits(cfgr: CFGR) -> u8
+pub(crate) fn late_refusal(cfgr: CFGR) -> u8
     requires { ⌜ Checked cfgr ⌝ }
     ensures { λ r. ⌜ r ≡ limitsOf cfgr ⌝ }
 {

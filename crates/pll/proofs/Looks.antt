@@ -14,25 +14,29 @@ use Rattle.pll.specs.declared.Look.{Look}
 use Rattle.pll.specs.declared.Look.the-variants.{Refuse, NextM, NextN, Good}
 use Rattle.pll.proofs.Dividers.{split, SeekView, missed, had, seek-view}
 
+-- the last M that is looked at
+abbrev pub lastM : ℕ
+lastM = 63
+
 -- ---- what a look comes to, by its tests
 module _ (f : ℕ) (p q : Window) (m n : ℕ) where
-  pub look-past : 63 < m → look f p q m n ≡ Refuse
+  pub look-past : lastM < m → look f p q m n ≡ Refuse
   unfolding look
   look-past a = simp (lt-ltb _ _ a)
 
-  pub look-low : m ≤ 63 → f / m < 1000000 → look f p q m n ≡ Refuse
+  pub look-low : m ≤ lastM → f / m < 1000000 → look f p q m n ≡ Refuse
   unfolding look
   look-low a b = simp (le-ltb _ _ a, lt-ltb _ _ b)
 
-  pub look-high : m ≤ 63 → 1000000 ≤ f / m → 2000000 < f / m → look f p q m n ≡ NextM
+  pub look-high : m ≤ lastM → 1000000 ≤ f / m → 2000000 < f / m → look f p q m n ≡ NextM
   unfolding look
   look-high a b d = simp (le-ltb _ _ a, le-ltb _ _ b, lt-ltb _ _ d)
 
-  pub look-end : m ≤ 63 → 1000000 ≤ f / m → f / m ≤ 2000000 → n < 50 → look f p q m n ≡ NextM
+  pub look-end : m ≤ lastM → 1000000 ≤ f / m → f / m ≤ 2000000 → n < 50 → look f p q m n ≡ NextM
   unfolding look
   look-end a b d e = simp (le-ltb _ _ a, le-ltb _ _ b, le-ltb _ _ d, lt-ltb _ _ e)
 
-  pub look-judge : m ≤ 63 → 1000000 ≤ f / m → f / m ≤ 2000000 → 50 ≤ n → look f p q m n ≡ judge p q (vcoOf f n m)
+  pub look-judge : m ≤ lastM → 1000000 ≤ f / m → f / m ≤ 2000000 → 50 ≤ n → look f p q m n ≡ judge p q (vcoOf f n m)
   unfolding look
   look-judge a b d e = simp (le-ltb _ _ a, le-ltb _ _ b, le-ltb _ _ d, le-ltb _ _ e)
 
@@ -51,16 +55,16 @@ module _ (p q : Window) (v : ℕ) where
 
 -- ---- the view
 pub record InRange (f m n : ℕ) : Type 0 where
-  pub m-high : m ≤ 63
+  pub m-high : m ≤ lastM
   pub low : 1000000 ≤ f / m
   pub high : f / m ≤ 2000000
   pub n-low : 50 ≤ n
 
 pub data Looked (f : ℕ) (p q : Window) (m n : ℕ) : Look → Type 0 where
-  past : 63 < m → Looked f p q m n Refuse
+  past : lastM < m → Looked f p q m n Refuse
   low : f / m < 1000000 → Looked f p q m n Refuse
-  high : m ≤ 63 → 1000000 ≤ f / m → 2000000 < f / m → Looked f p q m n NextM
-  end : m ≤ 63 → 1000000 ≤ f / m → f / m ≤ 2000000 → n < 50 → Looked f p q m n NextM
+  high : m ≤ lastM → 1000000 ≤ f / m → 2000000 < f / m → Looked f p q m n NextM
+  end : m ≤ lastM → 1000000 ≤ f / m → f / m ≤ 2000000 → n < 50 → Looked f p q m n NextM
   slow : InRange f m n → vcoOf f n m < 50000000 → Looked f p q m n NextM
   fast : InRange f m n → 432000000 < vcoOf f n m → Looked f p q m n NextN
   missed-p : InRange f m n → (Fitting pDividers p (vcoOf f n m) → ⊥) → Looked f p q m n NextN
@@ -86,20 +90,20 @@ module _ (f : ℕ) (p q : Window) (m n : ℕ) where
 
   pub looked : Looked f p q m n (look f p q m n)
   looked =
-      ⊎-elim (λ (a : 63 < m). rw (look-past f p q m n a) (past a))
-      (λ (a : m ≤ 63). ⊎-elim (λ (b : f / m < 1000000). rw (look-low f p q m n a b) (low b))
+      ⊎-elim (λ (a : lastM < m). rw (look-past f p q m n a) (past a))
+      (λ (a : m ≤ lastM). ⊎-elim (λ (b : f / m < 1000000). rw (look-low f p q m n a b) (low b))
       (λ (b : 1000000 ≤ f / m). ⊎-elim (λ (c : 2000000 < f / m). rw (look-high f p q m n a b c) (high a b c))
       (λ (c : f / m ≤ 2000000). ⊎-elim (λ (d : n < 50). rw (look-end f p q m n a b c d) (end a b c d))
       (λ (d : 50 ≤ n). rw (look-judge f p q m n a b c d) (judged (record { m-high = a; low = b; high = c; n-low = d })))
       (split n 50))
       (split 2000000 (f / m)))
       (split (f / m) 1000000))
-      (split 63 m)
+      (split lastM m)
 
   pub told : {l : Look} → look f p q m n ≡ l → Looked f p q m n l
   told e = subst (λ (x : Look). Looked f p q m n x) e looked
 
-pub next-m-small : (f : ℕ) (p q : Window) (m n : ℕ) → Looked f p q m n NextM → m ≤ 63
+pub next-m-small : (f : ℕ) (p q : Window) (m n : ℕ) → Looked f p q m n NextM → m ≤ lastM
 next-m-small f p q m n (high a b c) = a
 next-m-small f p q m n (end a b c d) = a
 next-m-small f p q m n (slow r d) = r .m-high

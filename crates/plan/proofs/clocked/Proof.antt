@@ -13,8 +13,8 @@ enum-known-number c = search needs
 enum-known-clocks : tie.Need-enum-known-clocks
 enum-known-clocks c = search needs
 
-limits-requires : tie.Need-limits-requires
-limits-requires c κs = derived-checked _ (c .before .before .before .calculate-clocks .ensures) (c .before .clocks .given .1)
+late-refusal-requires : tie.Need-late-refusal-requires
+late-refusal-requires c κs = derived-checked _ (c .before .before .before .calculate-clocks .ensures) (c .before .clocks .given .1)
 
 limited-requires : tie.Need-limited-requires
 limited-requires c κs = search needs
@@ -23,7 +23,7 @@ returns : tie.Need-returns
 returns c = clocked-refused _ _ _ (c .before .before .before .calculate-clocks .ensures) (c .before .number .given .1)
 
 returns-2 : tie.Need-returns-2
-returns-2 c = clocked-at _ _ (c .before .before .before .before .before .calculate-clocks .ensures) (c .before .before .before .clocks .given .1) (c .limited .ensures) (c .before .limits .ensures)
+returns-2 c = clocked-at _ _ (c .before .before .before .before .before .calculate-clocks .ensures) (c .before .before .before .clocks .given .1) (c .limited .ensures) (c .before .late-refusal .ensures)
 
 pub clocked-spec : {M : Type 1} → statement M
 clocked-spec =
@@ -32,7 +32,7 @@ clocked-spec =
     calculate-clocks-requires
     enum-known-number
     enum-known-clocks
-    limits-requires
+    late-refusal-requires
     limited-requires
     returns
     returns-2)

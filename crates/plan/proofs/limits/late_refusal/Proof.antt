@@ -1,8 +1,8 @@
--- `limits` meets its contract: by its parts, whose limits the check has kept.
+-- `limits::late_refusal` meets its contract: by its parts, whose limits the check has kept.
 use Rattle.plan.proofs.Planning.{limits-ask, limits-are}
 use borrow.Author.Needs.{needs}
-use Rattle.plan.proofs.limits.limits.Statement.{statement}
-use Rattle.plan.proofs.limits.limits.Tie as tie
+use Rattle.plan.proofs.limits.late_refusal.Statement.{statement}
+use Rattle.plan.proofs.limits.late_refusal.Tie as tie
 
 input-of-requires : tie.Need-input-of-requires
 input-of-requires c κs = search needs
@@ -19,8 +19,8 @@ first-of-requires c κs = search needs
 returns : tie.Need-returns
 returns c = limits-are _ (c .first-of .ensures) (c .before .before .sai-late .ensures) (c .before .i2s-late .ensures) (c .before .before .before .input-of .ensures)
 
-pub limits-spec : {M : Type 1} → statement M
-limits-spec =
+pub late-refusal-spec : {M : Type 1} → statement M
+late-refusal-spec =
     tie.close
     (tie.spec
     input-of-requires
