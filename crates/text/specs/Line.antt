@@ -24,8 +24,8 @@ QUANTITIES = 14
 abbrev pub LINE : ℕ
 LINE = 157
 
-abbrev pub NO_LINE : ℕ
-NO_LINE = 14
+abbrev pub NOLINE : ℕ
+NOLINE = 14
 
 -- `ok` and the numbers of a plan
 abbrev pub okLine : List ℕ → List ℕ

@@ -94,7 +94,7 @@ pub fn ok_line(out: &mut [u8], at: usize, ns: &[u32; QUANTITIES]) -> Placed
 
 // The line of a refusal.
 pub fn no_line(out: &mut [u8], at: usize, number: u32) -> Placed
-    ensures { λ r. ⌜ Placing (now (out .entry)) at (noLine number) line.NO_LINE (now (out .exit)) r ⌝ }
+    ensures { λ r. ⌜ Placing (now (out .entry)) at (noLine number) line.NOLINE (now (out .exit)) r ⌝ }
 {
     put_line(out, at, b"no", &[number])
 }
