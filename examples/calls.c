@@ -23,13 +23,13 @@ static const struct board boards[] = {
 };
 
 /* The record of the Rust's defaults: M 2, Q 2, PLLSAI Q 2, PLLI2S R 2, Q 2, N 50, 192, 192. */
-static const uint8_t defaults[64] = {
+static const uint8_t defaults[WOOLTURRET_RECORD] = {
     [2] = 2, [4] = 2, [6] = 2, [7] = 2, [8] = 2, [14] = 50, [16] = 192, [18] = 192,
 };
 
 static void show_board(const struct board *b)
 {
-    uint32_t found[5];
+    uint32_t found[WOOLTURRET_SEARCH];
     uint32_t refusal = woolturret_search(b->input, true, b->sysclk - 1, b->sysclk + 1, b->usb, 47880000, 48120000, found);
     if (refusal != 0) {
         printf("%s: refused %u after %u passes\n", b->name, refusal, found[0]);
@@ -43,13 +43,13 @@ static void show_board(const struct board *b)
 
 static void show_setters(void)
 {
-    uint32_t numbers[30];
+    uint32_t numbers[WOOLTURRET_CONFIG];
     printf("the default record: check %u\n", woolturret_check(defaults, sizeof defaults));
     uint32_t refusal = woolturret_set(defaults, sizeof defaults, 9, 8, 0, numbers);
     printf("pllm(8) on it: %u, M is %u\n", refusal, numbers[14]);
     refusal = woolturret_set(defaults, sizeof defaults, 9, 64, 0, numbers);
     printf("pllm(64) on it: %u, M is %u\n", refusal, numbers[14]);
-    printf("63 of its bytes: check %u\n", woolturret_check(defaults, 63));
+    printf("63 of its bytes: check %u\n", woolturret_check(defaults, WOOLTURRET_RECORD - 1));
 }
 
 static void put_u32(uint8_t *at, uint32_t number)
@@ -60,21 +60,21 @@ static void put_u32(uint8_t *at, uint32_t number)
 
 static void show_line(const uint8_t *record, size_t length)
 {
-    uint8_t line[157];
+    uint8_t line[WOOLTURRET_LINE];
     fwrite(line, 1, woolturret_line(record, length, line), stdout);
 }
 
 /* HSE by bypass at 8 MHz, SYSCLK as given, 48 MHz from PLLQ: flags 0, 1, 3 and 10. */
 static void show_plan(uint32_t sysclk)
 {
-    uint8_t record[64];
+    uint8_t record[WOOLTURRET_RECORD];
     memcpy(record, defaults, sizeof record);
     record[0] = 0x0b;
     record[1] = 0x04;
     put_u32(record + 20, 8000000);
     put_u32(record + 28, sysclk);
 
-    uint32_t config[30], clocks[16], passes;
+    uint32_t config[WOOLTURRET_CONFIG], clocks[WOOLTURRET_CLOCKS], passes;
     uint32_t refusal = woolturret_derive(record, sizeof record, clocks);
     printf("Nucleo F767 for %u Hz and USB, as it stands: %u, SYSCLK %u Hz\n", sysclk, refusal, clocks[0]);
     refusal = woolturret_configure(record, sizeof record, config, &passes);
@@ -97,6 +97,6 @@ int main(void)
     show_setters();
     show_plan(216000000);
     show_plan(200000000);
-    show_line(defaults, 63);
+    show_line(defaults, WOOLTURRET_RECORD - 1);
     return 0;
 }

@@ -3,7 +3,10 @@
 use std::process::ExitCode;
 
 mod woolturret {
-    // What is wanted of include/woolturret.h, which says what each function asks and answers.
+    // What is wanted of include/woolturret.h, which says what each function asks and answers: its sizes, and a declaration.
+    pub const CONFIG: usize = 30;
+    pub const CLOCKS: usize = 16;
+    pub const RECORD: usize = 64;
     extern "C" {
         fn woolturret_plan(
             bytes: *const u8,
@@ -16,15 +19,15 @@ mod woolturret {
 
     /// A plan, numbered as the header has it.
     pub struct Plan {
-        pub config: [u32; 30],
-        pub clocks: [u32; 16],
+        pub config: [u32; CONFIG],
+        pub clocks: [u32; CLOCKS],
         pub passes: u32,
     }
 
     /// The plan of a request record, or the number of its refusal. Any bytes have an answer.
     pub fn plan(record: &[u8]) -> Result<Plan, u32> {
-        let mut plan = Plan { config: [0; 30], clocks: [0; 16], passes: 0 };
-        // SAFETY: the pointers are to 30, 16 and 1 numbers and to record.len() bytes, and none overlaps another.
+        let mut plan = Plan { config: [0; CONFIG], clocks: [0; CLOCKS], passes: 0 };
+        // SAFETY: the pointers are to CONFIG, CLOCKS and 1 numbers and to record.len() bytes, and none overlaps another.
         let number = unsafe {
             woolturret_plan(
                 record.as_ptr(),
@@ -39,8 +42,8 @@ mod woolturret {
 }
 
 /// The record of the Rust's defaults with an HSE crystal and a SYSCLK request, both in hertz.
-fn record(hse: u32, sysclk: u32) -> [u8; 64] {
-    let mut bytes = [0; 64];
+fn record(hse: u32, sysclk: u32) -> [u8; woolturret::RECORD] {
+    let mut bytes = [0; woolturret::RECORD];
     bytes[0] = 1 | 1 << 3; // flags: HSE, SYSCLK
     bytes[2..9].copy_from_slice(&[2, 0, 2, 0, 2, 2, 2]); // M, P code, Q; PLLSAI P code, Q; PLLI2S R, Q
     for (offset, n) in [(14, 50u16), (16, 192), (18, 192)] {
@@ -70,7 +73,7 @@ fn main() -> ExitCode {
     let good = tell("25 MHz crystal, 216 MHz", &record(25_000_000, 216_000_000));
     let refused = [
         tell("25 MHz crystal, 217 MHz", &record(25_000_000, 217_000_000)),
-        tell("63 bytes", &record(25_000_000, 216_000_000)[..63]),
+        tell("63 bytes", &record(25_000_000, 216_000_000)[..woolturret::RECORD - 1]),
         tell("no bytes", &[]),
     ];
     if good && refused == [false; 3] { ExitCode::SUCCESS } else { ExitCode::FAILURE }

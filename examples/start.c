@@ -5,12 +5,12 @@
 #include <string.h>
 #include "woolturret.h"
 
-enum { HSION = 0, PLLON = 3, SW = 6, LATENCY = 33, PLACES = 35 };
+enum { HSION = 0, PLLON = 3, SW = 6, LATENCY = 33, PLACES = WOOLTURRET_PLACES };
 enum { NEVER = 255, LIMIT = 1000 };
 enum { M = 2 }; /* M's byte in a record */
 
 /* The Rust's defaults with a crystal of 25,000,000 Hz (flag 0) and SYSCLK 216,000,000 Hz (flag 3). */
-static const uint8_t record[64] = {
+static const uint8_t record[WOOLTURRET_RECORD] = {
     [0] = 0x09, [2] = 2, [4] = 2, [6] = 2, [7] = 2, [8] = 2, [14] = 50, [16] = 192, [18] = 192,
     [20] = 0x40, [21] = 0x78, [22] = 0x7d, [23] = 0x01, [28] = 0x00, [29] = 0xe6, [30] = 0xdf, [31] = 0x0c,
 };
@@ -24,7 +24,7 @@ static const uint8_t ready[8] = {1, 1, 1, 1, 1, 1, 1, 1};
 struct attempt {
     struct woolturret_started came;
     uint32_t file[PLACES];
-    uint32_t clocks[16];
+    uint32_t clocks[WOOLTURRET_CLOCKS];
 };
 
 static void hold(bool is, const char *what)
@@ -58,7 +58,7 @@ static void show_file(const uint32_t *file)
 
 static struct attempt show_start(void)
 {
-    uint32_t config[30], clocks[16], passes;
+    uint32_t config[WOOLTURRET_CONFIG], clocks[WOOLTURRET_CLOCKS], passes;
     hold(woolturret_plan(record, sizeof record, config, clocks, &passes) == 0, "it is planned");
     printf("the plan: SYSCLK %u Hz, HCLK %u Hz, %u wait states, over-drive %u\n", clocks[0], clocks[1], clocks[9], clocks[11]);
     struct attempt done = start(before, ready, sizeof ready, NEVER);
@@ -113,7 +113,7 @@ static void show_silence(const struct attempt *done)
 static void show_refused(const char *what, size_t length, uint8_t m, size_t places, uint32_t limit)
 {
     uint8_t asked[sizeof record];
-    uint32_t file[PLACES], clocks[16] = {0};
+    uint32_t file[PLACES], clocks[WOOLTURRET_CLOCKS] = {0};
     memcpy(asked, record, sizeof asked);
     asked[M] = m;
     memcpy(file, before, sizeof file);

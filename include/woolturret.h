@@ -15,12 +15,14 @@
  *  11 PLLI2S used, its VCO outside 192 to 432 MHz
  *  12 a wait not answered within the poll limit
  *  13 poll limit outside 1..65,535
- *  14 malformed request record: a breach of its layout, or any other length than 64 bytes, 0 too; of woolturret_set also a setter
- *     or a code that there is not, of woolturret_start also a register file that is not 35 numbers
+ *  14 malformed request record: a breach of its layout, or any other length than WOOLTURRET_RECORD bytes, 0 too; of woolturret_set
+ *     also a setter or a code that there is not, of woolturret_start also a register file that is not WOOLTURRET_PLACES numbers
  * All ends are inclusive; of several numbers 13 is given first, then 14, then the least number; 12 comes as the waits come.
  * What can't be checked here is asked of the caller: no pointer is NULL, each points to as many elements as its declaration or the
  * length beside it says (with a length of 0 it is not looked at), and what is written overlaps neither what is read nor anything
  * else that is written. Nothing is kept between calls: any number of threads may call, each with buffers of its own.
+ * Sizes have names: numbers of a configuration and of clocks, places of a register file, bytes of the longest line and of a record,
+ * numbers of a search.
  */
 #ifndef WOOLTURRET_H
 #define WOOLTURRET_H
@@ -31,6 +33,12 @@
 
 /* Raised with every change of what a function here takes or answers. */
 #define WOOLTURRET_INTERFACE 1
+#define WOOLTURRET_CONFIG 30
+#define WOOLTURRET_CLOCKS 16
+#define WOOLTURRET_PLACES 35
+#define WOOLTURRET_LINE 157
+#define WOOLTURRET_RECORD 64
+#define WOOLTURRET_SEARCH 5
 
 #ifdef __cplusplus
 extern "C" {
@@ -45,7 +53,7 @@ extern "C" {
 uint32_t woolturret_search(uint32_t input,
                            bool p, uint32_t pmin, uint32_t pmax,
                            bool q, uint32_t qmin, uint32_t qmax,
-                           uint32_t out[5]);
+                           uint32_t out[WOOLTURRET_SEARCH]);
 
 /* The output with divider d (2..15) of an input in hertz, M (2..63) and N (50..432), by the Rust's fixed point: with
  * b = floor(input / 16), r(x) = floor((floor(2^31 / x) + 1) / 2) and V = floor(b N r(M) / 2^30), it is 16 floor(V r(d) / 2^30).
@@ -71,12 +79,13 @@ uint32_t woolturret_check(const uint8_t *bytes, size_t length);
  *   for HCLK, SYSCLK, PCLK1, PCLK2 each: whether it is asked for, and its hertz;
  *   use_pll, 48 MHz choice (0 absent, 1 PLLQ, 2 PLLSAI), M, N, P code, Q;
  *   use_pllsai, N, P code, Q;   use_plli2s, N, R, Q;   MCO1, MCO1PRE, MCO2, MCO2PRE. */
-uint32_t woolturret_set(const uint8_t *bytes, size_t length, uint32_t setter, uint32_t a, uint32_t b, uint32_t out[30]);
+uint32_t woolturret_set(const uint8_t *bytes, size_t length, uint32_t setter, uint32_t a, uint32_t b,
+                        uint32_t out[WOOLTURRET_CONFIG]);
 
 /* Whether the PLL is used and with which settings: the Rust's pll_configure on the configuration that a request record holds.
  * Answers 0 with the configuration as planned in config, numbered as woolturret_set's out, or 1 to 7 or 14 with config as it was.
  * passes is always written: the passes of the search, as woolturret_search has them, and 0 where no search ran. */
-uint32_t woolturret_configure(const uint8_t *bytes, size_t length, uint32_t config[30], uint32_t *passes);
+uint32_t woolturret_configure(const uint8_t *bytes, size_t length, uint32_t config[WOOLTURRET_CONFIG], uint32_t *passes);
 
 /* The clocks that the configuration of a request record gives as it stands: the Rust's calculate_clocks. Nothing is searched for.
  * Answers 0 with the clocks, or 1 to 6, 8 or 14 with clocks as it was. The numbers of clocks:
@@ -84,18 +93,19 @@ uint32_t woolturret_configure(const uint8_t *bytes, size_t length, uint32_t conf
  *   field codes of HPRE (0 for 1, 8 to 15 for 2, 4, 8, 16, 64, 128, 256, 512), of PPRE1 and PPRE2 (0 for 1, 4 to 7 for 2, 4, 8, 16);
  *   wait states, voltage scale (1 to 3), over-drive (0, 1), 48 MHz clock valid (0, 1);
  *   HSE as given, LSE (32768), LSI (32000), each 0 where absent. */
-uint32_t woolturret_derive(const uint8_t *bytes, size_t length, uint32_t clocks[16]);
+uint32_t woolturret_derive(const uint8_t *bytes, size_t length, uint32_t clocks[WOOLTURRET_CLOCKS]);
 
 /* A whole plan: woolturret_configure, then the clocks of what it planned, then 9 to 11 with the M planned.
  * Answers 0 with config and clocks, or 1 to 7, 9 to 11 or 14 with both as they were.
  * passes is always written: those of the search wherever one ran, also where 9 to 11 refuse. */
-uint32_t woolturret_plan(const uint8_t *bytes, size_t length, uint32_t config[30], uint32_t clocks[16], uint32_t *passes);
+uint32_t woolturret_plan(const uint8_t *bytes, size_t length, uint32_t config[WOOLTURRET_CONFIG],
+                         uint32_t clocks[WOOLTURRET_CLOCKS], uint32_t *passes);
 
 /* The line that the program writes for a record, at the start of out: "ok" and 14 numbers (SYSCLK, HCLK, PCLK1, PCLK2, both timer
  * clocks, M, N, P, Q, wait states, scale, over-drive, 48 MHz valid), or "no" and woolturret_plan's refusal; then a newline.
- * Bytes of any length have one: "no 14" for any but 64. Answers the line's length; the rest of out is as it was, so no zero
- * byte ends it. */
-uint32_t woolturret_line(const uint8_t *bytes, size_t length, uint8_t out[157]);
+ * Bytes of any length have one: "no 14" for any but WOOLTURRET_RECORD. Answers the line's length; the rest of out is as it was,
+ * so no zero byte ends it. */
+uint32_t woolturret_line(const uint8_t *bytes, size_t length, uint8_t out[WOOLTURRET_LINE]);
 
 /* What a start came to. */
 struct woolturret_started {
@@ -108,7 +118,7 @@ struct woolturret_started {
 /* A start: the Rust's freeze on the configuration that a request record holds, over a register file that is lent: a model, which
  * touches no register of a board. It plans for itself.
  *
- * file points to as many numbers as places says, which must be 35 (else 14), each a field of a register:
+ * file points to as many numbers as places says, which must be WOOLTURRET_PLACES (else 14), each a field of a register:
  *    0 HSION, 1 HSEBYP, 2 HSEON, 3 PLLON, 4 PLLSAION, 5 PLLI2SON;
  *    6 SW (0 HSI, 1 HSE, 2 PLL), 7 MCO1, 8 MCO1PRE, 9 MCO2, 10 MCO2PRE, 11 PPRE1, 12 PPRE2, 13 HPRE;
  *   14 PLLM, 15 PLLN, 16 PLLP, 17 PLLQ, 18 PLLSRC (1 with HSE);   19 PWREN;   20 VOS (the scale, 1 to 3), 21 ODEN, 22 ODSWEN;
@@ -147,7 +157,7 @@ struct woolturret_started {
 struct woolturret_started woolturret_start(const uint8_t *bytes, size_t length,
                                            uint32_t *file, size_t places,
                                            const uint8_t *answers, size_t answered,
-                                           uint32_t limit, uint8_t cut, uint32_t clocks[16]);
+                                           uint32_t limit, uint8_t cut, uint32_t clocks[WOOLTURRET_CLOCKS]);
 
 #ifdef __cplusplus
 }

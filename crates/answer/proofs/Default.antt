@@ -14,12 +14,12 @@ use Rattle.record.specs.Reading.{defaultRecord}
 use Rattle.record.proofs.Defaults.{reads-defaults}
 use Rattle.text.specs.Decimal.{decimal, digitsIn}
 use Rattle.text.specs.Line.{spaced, lineOf}
-use Rattle.answer.specs.Answer.{numbersOf, plannedLine, readLine, answerLine, defaultLine}
+use Rattle.answer.specs.Answer.{quantitiesOf, plannedAnswer, readAnswer, answerOf, lineOfAnswer, plannedLine, answerLine, defaultLine}
 
 default-planned : plannedLine (planOf defaults) ≡ defaultLine
-unfolding inputOf outsideOf firstOf checkOf baseOf configuredOf chosenOf settledOf baseIn wantedIn pWindowIn qWindowIn pWindowOf round24 ratioUp hpreRow ppreRow sysclkOf wantedOf hpreOf ahbFor capOf timclkOf apbFor waitStatesOf scaleOf validOf ahbOf apb1Of apb2Of clocksOf configOf derivedOf clocksSettled saiLate i2sLate limitsOf limitedOf clockedOf plannedOf planOf decimal digitsIn spaced lineOf numbersOf plannedLine size
+unfolding inputOf outsideOf firstOf checkOf baseOf configuredOf chosenOf settledOf baseIn wantedIn pWindowIn qWindowIn pWindowOf round24 ratioUp hpreRow ppreRow sysclkOf wantedOf hpreOf ahbFor capOf timclkOf apbFor waitStatesOf scaleOf validOf ahbOf apb1Of apb2Of clocksOf configOf derivedOf clocksSettled saiLate i2sLate limitsOf limitedOf clockedOf plannedOf planOf decimal digitsIn spaced lineOf quantitiesOf plannedAnswer lineOfAnswer plannedLine size
 default-planned = refl
 
 pub default-line : answerLine defaultRecord ≡ defaultLine
-unfolding answerLine readLine
+unfolding answerLine answerOf readAnswer plannedLine
 default-line = rw reads-defaults default-planned

@@ -1,4 +1,5 @@
--- What is proved of the line, and the laws for it.
+-- What is proved of the answer and its line, and the laws for them.
 pub mod Lines
 pub mod Default
 pub mod Theorems
+pub mod Value

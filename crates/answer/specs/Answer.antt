@@ -1,7 +1,9 @@
--- Document 01, "Request record", the program's line: what any bytes are answered with.
+-- Document 01, "Request record", the program's line: what any bytes are answered with, as a value and as its line.
 use Prim.Native.Nat.{ℕ}
 use mathlib.Core.Bool.{cond}
 use mathlib.Core.List.{List, [], _∷_}
+use lib.Dec.{eqb}
+use lib.ListN.{replicate}
 use Rattle.kinds.specs.Codes.{pDividerOf}
 use Rattle.kinds.specs.declared.Pll.{Pll}
 use Rattle.plan.specs.Plan.{planOf, numberOf as planNumber}
@@ -13,28 +15,44 @@ use Rattle.record.specs.Reading.{readOf, numberOf}
 use Rattle.record.specs.declared.Reading.{Reading}
 use Rattle.record.specs.declared.Reading.the-variants.{Config, Malformed}
 use Rattle.text.specs.Ascii.{codes}
-use Rattle.text.specs.Line.{okLine, noLine}
+use Rattle.text.specs.Line.{QUANTITIES, okLine, noLine}
+use Rattle.answer.specs.declared.Answer.{Answer}
 
 -- SYSCLK, HCLK, PCLK1, PCLK2, both timers, M, N, P, Q, wait states, scale, over-drive, 48 MHz valid
-unfoldable pub numbersOf : Pll → Clocks → InternalRCCConfig → List ℕ
-numbersOf l x g =
+unfoldable pub quantitiesOf : Pll → Clocks → InternalRCCConfig → List ℕ
+quantitiesOf l x g =
     x .sysclk .0 ∷ x .hclk .0 ∷ x .pclk1 .0 ∷ x .pclk2 .0 ∷ x .timclk1 .0 ∷ x .timclk2 .0
     ∷ l .m .0 ∷ l .n .0 ∷ pDividerOf (l .p) ∷ l .q .0
     ∷ g .«flash_waitstates» ∷ g .«vos_scale» ∷ cond (g .overdrive) 1 0 ∷ cond (x .«pll48clk_valid») 1 0
     ∷ []
 
--- a plan is answered with its numbers, those of the PLL as planned; a refusal is `no` and the number
+-- a refusal: its number, the offset that it names (0 where it names none), the passes made; no quantity is told
+unfoldable pub refusedAnswer : ℕ → ℕ → ℕ → Answer
+refusedAnswer number offset passes = record { number = number; offset = offset; passes = passes; quantities = replicate QUANTITIES 0 }
+
+-- a plan is answered with its quantities, those of the PLL as planned
+unfoldable pub plannedAnswer : Planned → Answer
+plannedAnswer (Refused number passes) = refusedAnswer number 0 passes
+plannedAnswer (Ready c passes x g) = record { number = 0; offset = 0; passes = passes; quantities = quantitiesOf (c .pll) x g }
+
+-- for a malformed record nothing is searched; document 01 names no offset
+unfoldable pub readAnswer : Reading → Answer
+readAnswer (Malformed fault) = refusedAnswer (numberOf fault) 0 0
+readAnswer (Config c) = plannedAnswer (planOf c)
+
+-- the answer of any bytes, also of another length than a record's
+unfoldable pub answerOf : List ℕ → Answer
+answerOf bytes = readAnswer (readOf bytes)
+
+-- the line: `ok` and the quantities, or `no` and the number
+unfoldable pub lineOfAnswer : Answer → List ℕ
+lineOfAnswer a = cond (eqb (a .number) 0) (okLine (a .quantities)) (noLine (a .number))
+
 unfoldable pub plannedLine : Planned → List ℕ
-plannedLine (Refused number passes) = noLine number
-plannedLine (Ready c passes x g) = okLine (numbersOf (c .pll) x g)
+plannedLine y = lineOfAnswer (plannedAnswer y)
 
-unfoldable pub readLine : Reading → List ℕ
-readLine (Malformed fault) = noLine (numberOf fault)
-readLine (Config c) = plannedLine (planOf c)
-
--- the line of any bytes, also of another length than 64
 unfoldable pub answerLine : List ℕ → List ℕ
-answerLine bytes = readLine (readOf bytes)
+answerLine bytes = lineOfAnswer (answerOf bytes)
 
 -- the number of the refusal that they are answered with; 0 is accepted
 abbrev pub refusalOf : Reading → ℕ

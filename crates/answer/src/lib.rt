@@ -1,19 +1,31 @@
-// Document 01, "Request record", the program's line: what the bytes of one record are answered with.
+// Document 01, "Request record", the program's line: what the bytes of one record are answered with, as a value and as its line.
 use clocks::Clocks;
 use clocks::InternalRCCConfig;
 use kinds::Pll;
 use kinds::codes::p_divider;
 use plan::Planned;
 use record::Reading;
+use text::LINE;
 use text::Placed;
+use text::QUANTITIES;
 ghost use mathlib.Core.Path.{_≡_};
 ghost use Prim.Native.Nat.{_+_, _≤_};
 ghost use lib.ListN.{length};
+ghost use Rattle.text.specs.Line as line;
 ghost use Rattle.text.specs.Placing.{Placing};
-ghost use Rattle.answer.specs.Answer.{numbersOf, plannedLine, readLine, answerLine};
+ghost use Rattle.answer.specs.Answer as spec;
 
-fn numbers_of(pll: Pll, clocks: Clocks, config: InternalRCCConfig) -> [u32; 14]
-    ensures { λ r. ⌜ r ≡ numbersOf pll clocks config ⌝ }
+// 0 or the refusal's number; the offset of the byte that it names, 0 where it names none; the passes of the search wherever one ran;
+// the quantities of the plan's line, in its order, all 0 where there is no plan.
+pub struct Answer {
+    pub number: u32,
+    pub offset: u32,
+    pub passes: u32,
+    pub quantities: [u32; QUANTITIES],
+}
+
+fn quantities_of(pll: Pll, clocks: Clocks, config: InternalRCCConfig) -> [u32; QUANTITIES]
+    ensures { λ r. ⌜ r ≡ spec.quantitiesOf pll clocks config ⌝ }
 {
     let p = pll.p;
     [
@@ -34,43 +46,85 @@ fn numbers_of(pll: Pll, clocks: Clocks, config: InternalRCCConfig) -> [u32; 14]
     ]
 }
 
-fn put_planned(planned: Planned, out: &mut [u8], at: usize) -> Placed
-    requires { ⌜ at + 157 ≤ length (now out) ⌝ }
-    ensures { λ r. ⌜ Placing (now (out .entry)) at (plannedLine planned) 157 (now (out .exit)) r ⌝ }
+fn refused(number: u32, offset: u32, passes: u32) -> Answer
+    ensures { λ r. ⌜ r ≡ spec.refusedAnswer number offset passes ⌝ }
 {
-    match planned {
-        Planned::Refused { number, passes: _ } => text::no_line(out, at, number as u32),
+    let quantities = [0; QUANTITIES];
+    Answer {
+        number,
+        offset,
+        passes,
+        quantities,
+    }
+}
+
+fn planned(plan: Planned) -> Answer
+    ensures { λ r. ⌜ r ≡ spec.plannedAnswer plan ⌝ }
+{
+    match plan {
+        Planned::Refused { number, passes } => refused(number as u32, 0, passes),
         Planned::Ready {
             cfgr,
-            passes: _,
+            passes,
             clocks,
             config,
         } => {
             let pll = cfgr.pll;
-            text::ok_line(out, at, &numbers_of(pll, clocks, config))
+            let quantities = quantities_of(pll, clocks, config);
+            Answer {
+                number: 0,
+                offset: 0,
+                passes,
+                quantities,
+            }
         }
     }
 }
 
-fn put_read(reading: Reading, out: &mut [u8], at: usize) -> Placed
-    requires { ⌜ at + 157 ≤ length (now out) ⌝ }
-    ensures { λ r. ⌜ Placing (now (out .entry)) at (readLine reading) 157 (now (out .exit)) r ⌝ }
+fn read(reading: Reading) -> Answer
+    ensures { λ r. ⌜ r ≡ spec.readAnswer reading ⌝ }
 {
     match reading {
-        Reading::Malformed(_) => text::no_line(out, at, 14),
-        Reading::Config(cfgr) => put_planned(plan::plan(cfgr), out, at),
+        Reading::Malformed(_) => refused(14, 0, 0),
+        Reading::Config(cfgr) => planned(plan::plan(cfgr)),
     }
 }
 
-// The line of any bytes, put where 157 places are left for it.
-pub fn put_answer(bytes: &[u8], out: &mut [u8], at: usize) -> Placed
-    ensures { λ r. ⌜ Placing (now (out .entry)) at (answerLine (now (bytes .entry))) 157 (now (out .exit)) r ⌝ }
+// The answer of any bytes.
+pub fn answer_of(bytes: &[u8]) -> Answer
+    ensures { λ r. ⌜ r ≡ spec.answerOf (now (bytes .entry)) ⌝ }
 {
-    if out.len() < 157 {
+    read(record::read_record(bytes))
+}
+
+fn put_told(answer: Answer, out: &mut [u8], at: usize) -> Placed
+    requires { ⌜ at + line.LINE ≤ length (now out) ⌝ }
+    ensures { λ r. ⌜ Placing (now (out .entry)) at (spec.lineOfAnswer answer) line.LINE (now (out .exit)) r ⌝ }
+{
+    let quantities = answer.quantities;
+    if answer.number == 0 {
+        text::ok_line(out, at, &quantities)
+    } else {
+        text::no_line(out, at, answer.number)
+    }
+}
+
+// The line of an answer, put where as many places are left as the longest has.
+pub fn put_line_of(answer: Answer, out: &mut [u8], at: usize) -> Placed
+    ensures { λ r. ⌜ Placing (now (out .entry)) at (spec.lineOfAnswer answer) line.LINE (now (out .exit)) r ⌝ }
+{
+    if out.len() < LINE {
         return Placed::NoRoom;
     }
-    if out.len() - 157 < at {
+    if out.len() - LINE < at {
         return Placed::NoRoom;
     }
-    put_read(record::read_record(bytes), out, at)
+    put_told(answer, out, at)
+}
+
+// The line of any bytes.
+pub fn put_answer(bytes: &[u8], out: &mut [u8], at: usize) -> Placed
+    ensures { λ r. ⌜ Placing (now (out .entry)) at (spec.answerLine (now (bytes .entry))) line.LINE (now (out .exit)) r ⌝ }
+{
+    put_line_of(answer_of(bytes), out, at)
 }

@@ -29,12 +29,12 @@ lse code = nth (Call (Lse LseOscillator) ∷ Call (Lse LseBypass) ∷ []) code
 abbrev pub choice : ℕ → Named
 choice code = nth (Call (UsePll48clk FromPllq) ∷ Call (UsePll48clk FromPllsai) ∷ []) code
 
-abbrev pub pCall : Bool → PLLP → Named
-pCall true x = Call (Pllsaip x)
-pCall false x = Call (Pllp x)
+abbrev pub pllpCall : Bool → PLLP → Named
+pllpCall true x = Call (Pllsaip x)
+pllpCall false x = Call (Pllp x)
 
-abbrev pub p : Bool → ℕ → Named
-p sai code = nth (pCall sai Div2 ∷ pCall sai Div4 ∷ pCall sai Div6 ∷ pCall sai Div8 ∷ []) code
+abbrev pub pllp : Bool → ℕ → Named
+pllp sai code = nth (pllpCall sai Div2 ∷ pllpCall sai Div4 ∷ pllpCall sai Div6 ∷ pllpCall sai Div8 ∷ []) code
 
 abbrev pub mco1 : ℕ → Named
 mco1 code = nth (Call (Mco1 Hsi) ∷ Call (Mco1 LseOut) ∷ Call (Mco1 HseOut) ∷ Call (Mco1 PllOut) ∷ []) code
@@ -42,12 +42,12 @@ mco1 code = nth (Call (Mco1 Hsi) ∷ Call (Mco1 LseOut) ∷ Call (Mco1 HseOut) �
 abbrev pub mco2 : ℕ → Named
 mco2 code = nth (Call (Mco2 SysclkOut) ∷ Call (Mco2 Plli2sOut) ∷ Call (Mco2 HseOut2) ∷ Call (Mco2 PllOut2) ∷ []) code
 
-abbrev pub preCall : Bool → MCOPRE → Named
-preCall true x = Call (Mco2pre x)
-preCall false x = Call (Mco1pre x)
+abbrev pub mcopreCall : Bool → MCOPRE → Named
+mcopreCall true x = Call (Mco2pre x)
+mcopreCall false x = Call (Mco1pre x)
 
-abbrev pub pre : Bool → ℕ → Named
-pre two code = nth (preCall two Div1 ∷ preCall two By2 ∷ preCall two By3 ∷ preCall two By4 ∷ preCall two By5 ∷ []) code
+abbrev pub mcopre : Bool → ℕ → Named
+mcopre two code = nth (mcopreCall two Div1 ∷ mcopreCall two By2 ∷ mcopreCall two By3 ∷ mcopreCall two By4 ∷ mcopreCall two By5 ∷ []) code
 
 abbrev pub calls : ℕ → ℕ → List Named
 calls a b =
@@ -62,20 +62,20 @@ calls a b =
     ∷ choice a
     ∷ Call (Pllm (record { 0 = a }))
     ∷ Call (Plln (record { 0 = a }))
-    ∷ p false a
+    ∷ pllp false a
     ∷ Call (Pllq (record { 0 = a }))
     ∷ Call UsePllsai
     ∷ Call (Pllsain (record { 0 = a }))
-    ∷ p true a
+    ∷ pllp true a
     ∷ Call (Pllsaiq (record { 0 = a }))
     ∷ Call UsePlli2s
     ∷ Call (Plli2sn (record { 0 = a }))
     ∷ Call (Plli2sq (record { 0 = a }))
     ∷ Call (Plli2sr (record { 0 = a }))
     ∷ mco1 a
-    ∷ pre false a
+    ∷ mcopre false a
     ∷ mco2 a
-    ∷ pre true a
+    ∷ mcopre true a
     ∷ Call SetDefaults
     ∷ []
 

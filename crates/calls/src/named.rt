@@ -50,8 +50,8 @@ fn choice(code: u32) -> Named
 }
 
 // P of the main PLL or of PLLSAI.
-fn p_call(sai: bool, p: PLLP) -> Named
-    ensures { λ r. ⌜ r ≡ spec.pCall sai p ⌝ }
+fn pllp_call(sai: bool, p: PLLP) -> Named
+    ensures { λ r. ⌜ r ≡ spec.pllpCall sai p ⌝ }
 {
     if sai {
         Named::Call(Setter::Pllsaip(p))
@@ -60,14 +60,14 @@ fn p_call(sai: bool, p: PLLP) -> Named
     }
 }
 
-fn p(sai: bool, code: u32) -> Named
-    ensures { λ r. ⌜ r ≡ spec.p sai code ⌝ }
+fn pllp(sai: bool, code: u32) -> Named
+    ensures { λ r. ⌜ r ≡ spec.pllp sai code ⌝ }
 {
     match code {
-        0 => p_call(sai, PLLP::Div2),
-        1 => p_call(sai, PLLP::Div4),
-        2 => p_call(sai, PLLP::Div6),
-        3 => p_call(sai, PLLP::Div8),
+        0 => pllp_call(sai, PLLP::Div2),
+        1 => pllp_call(sai, PLLP::Div4),
+        2 => pllp_call(sai, PLLP::Div6),
+        3 => pllp_call(sai, PLLP::Div8),
         _ => Named::Unknown,
     }
 }
@@ -97,8 +97,8 @@ fn mco2(code: u32) -> Named
 }
 
 // The prescaler of MCO1 or of MCO2.
-fn pre_call(two: bool, pre: MCOPRE) -> Named
-    ensures { λ r. ⌜ r ≡ spec.preCall two pre ⌝ }
+fn mcopre_call(two: bool, pre: MCOPRE) -> Named
+    ensures { λ r. ⌜ r ≡ spec.mcopreCall two pre ⌝ }
 {
     if two {
         Named::Call(Setter::Mco2pre(pre))
@@ -107,15 +107,15 @@ fn pre_call(two: bool, pre: MCOPRE) -> Named
     }
 }
 
-fn pre(two: bool, code: u32) -> Named
-    ensures { λ r. ⌜ r ≡ spec.pre two code ⌝ }
+fn mcopre(two: bool, code: u32) -> Named
+    ensures { λ r. ⌜ r ≡ spec.mcopre two code ⌝ }
 {
     match code {
-        0 => pre_call(two, MCOPRE::Div1),
-        1 => pre_call(two, MCOPRE::Div2),
-        2 => pre_call(two, MCOPRE::Div3),
-        3 => pre_call(two, MCOPRE::Div4),
-        4 => pre_call(two, MCOPRE::Div5),
+        0 => mcopre_call(two, MCOPRE::Div1),
+        1 => mcopre_call(two, MCOPRE::Div2),
+        2 => mcopre_call(two, MCOPRE::Div3),
+        3 => mcopre_call(two, MCOPRE::Div4),
+        4 => mcopre_call(two, MCOPRE::Div5),
         _ => Named::Unknown,
     }
 }
@@ -136,20 +136,20 @@ pub fn call_of(setter: u32, a: u32, b: u32) -> Named
         8 => choice(a),
         9 => Named::Call(Setter::Pllm(Divider(a))),
         10 => Named::Call(Setter::Plln(Factor(a))),
-        11 => p(false, a),
+        11 => pllp(false, a),
         12 => Named::Call(Setter::Pllq(Divider(a))),
         13 => Named::Call(Setter::UsePllsai),
         14 => Named::Call(Setter::Pllsain(Factor(a))),
-        15 => p(true, a),
+        15 => pllp(true, a),
         16 => Named::Call(Setter::Pllsaiq(Divider(a))),
         17 => Named::Call(Setter::UsePlli2s),
         18 => Named::Call(Setter::Plli2sn(Factor(a))),
         19 => Named::Call(Setter::Plli2sq(Divider(a))),
         20 => Named::Call(Setter::Plli2sr(Divider(a))),
         21 => mco1(a),
-        22 => pre(false, a),
+        22 => mcopre(false, a),
         23 => mco2(a),
-        24 => pre(true, a),
+        24 => mcopre(true, a),
         25 => Named::Call(Setter::SetDefaults),
         _ => Named::Unknown,
     }

@@ -1,3 +1,4 @@
 -- Laws that belong to no one function.
 pub mod Lists
 pub mod Planning
+pub mod Sizes

@@ -9,6 +9,10 @@ use Rattle.pll.specs.declared.Sought.the-variants.{Unasked, By}
 use Rattle.pll.specs.declared.Found.{Found}
 use Rattle.pll.specs.declared.Found.the-variants.{Pair, BadInput, Nothing}
 
+-- how many numbers an answer of the search has
+abbrev pub SEARCH : ℕ
+SEARCH = 5
+
 abbrev pub windowOf : Bool → ℕ → ℕ → Window
 windowOf true low high = Within (record { 0 = low }) (record { 0 = high })
 windowOf false low high = Absent
@@ -18,7 +22,7 @@ abbrev pub dividerOf : Sought → ℕ
 dividerOf Unasked = 0
 dividerOf (By d) = d .0
 
-abbrev pub numbersOf : Found → List ℕ
-numbersOf (Pair m n p q passes) = passes ∷ m .0 ∷ n .0 ∷ dividerOf p ∷ dividerOf q ∷ []
-numbersOf BadInput = 0 ∷ 0 ∷ 0 ∷ 0 ∷ 0 ∷ []
-numbersOf (Nothing passes) = passes ∷ 0 ∷ 0 ∷ 0 ∷ 0 ∷ []
+abbrev pub foundNumbers : Found → List ℕ
+foundNumbers (Pair m n p q passes) = passes ∷ m .0 ∷ n .0 ∷ dividerOf p ∷ dividerOf q ∷ []
+foundNumbers BadInput = 0 ∷ 0 ∷ 0 ∷ 0 ∷ 0 ∷ []
+foundNumbers (Nothing passes) = passes ∷ 0 ∷ 0 ∷ 0 ∷ 0 ∷ []

@@ -12,6 +12,10 @@ use Rattle.kinds.specs.declared.Choice48.the-variants.{Absent as NoChoice, Pllq
 use Rattle.kinds.specs.declared.Request.{Request}
 use Rattle.kinds.specs.declared.Request.the-variants.{Absent as NoRequest, At}
 
+-- how many numbers a configuration is
+abbrev pub CONFIG : ℕ
+CONFIG = 30
+
 abbrev pub hseKind : HSEClock → ℕ
 hseKind Absent = 0
 hseKind (Oscillator f) = 1
@@ -36,8 +40,8 @@ choiceKind NoChoice = 0
 choiceKind Pllq = 1
 choiceKind Pllsai = 2
 
-unfoldable pub numbersOf : CFGR → List ℕ
-numbersOf c =
+unfoldable pub configNumbers : CFGR → List ℕ
+configNumbers c =
     hseKind (c .sources .hse) ∷ hseHertz (c .sources .hse) ∷ lseKind (c .sources .lse) ∷ flagOf (c .sources .lsi)
     ∷ askedOf (c .requests .hclk) ∷ askedHertz (c .requests .hclk)
     ∷ askedOf (c .requests .sysclk) ∷ askedHertz (c .requests .sysclk)

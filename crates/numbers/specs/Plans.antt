@@ -11,7 +11,11 @@ use Rattle.clocks.specs.declared.Derived.the-variants.{Refused as NotDerived, A
 use Rattle.plan.specs.declared.Planned.{Planned}
 use Rattle.plan.specs.declared.Planned.the-variants.{Refused as NotPlanned, Ready as Planned'}
 use Rattle.kinds.specs.Codes.{flagOf, askedHertz}
-use Rattle.numbers.specs.Numbers.{numbersOf}
+use Rattle.numbers.specs.Numbers.{configNumbers}
+
+-- how many numbers the clocks are, with their field codes
+abbrev pub CLOCKS : ℕ
+CLOCKS = 16
 
 -- SYSCLK, HCLK, PCLK1, PCLK2, both timers; HPRE, PPRE1, PPRE2, wait states, scale, over-drive; 48 MHz valid, HSE, LSE, LSI (0 absent)
 unfoldable pub clockNumbers : Clocks → InternalRCCConfig → List ℕ
@@ -22,37 +26,37 @@ clockNumbers x y =
     ∷ []
 
 -- the number answered, the lent numbers as they are left, and the passes
-pub record Reply : Type 0 where
+pub record PlanReply : Type 0 where
   pub number : ℕ
   pub config : List ℕ
   pub clocks : List ℕ
   pub passes : ℕ
 
-pub record Plans (y : Reply) (r : ℕ) (config clocks : List ℕ) (passes : ℕ) : Type 0 where
+pub record Plans (y : PlanReply) (r : ℕ) (config clocks : List ℕ) (passes : ℕ) : Type 0 where
   pub answer : r ≡ y .number
   pub config-holds : config ≡ y .config
   pub clocks-hold : clocks ≡ y .clocks
   pub passes-hold : passes ≡ y .passes
 
 -- refused, the lent numbers are as they came; the passes are those of the search wherever one ran
-abbrev pub plannedReply : Planned → List ℕ → List ℕ → Reply
+abbrev pub plannedReply : Planned → List ℕ → List ℕ → PlanReply
 plannedReply (NotPlanned n k) config clocks = record { number = n; config = config; clocks = clocks; passes = k }
-plannedReply (Planned' c k x y) config clocks = record { number = 0; config = numbersOf c; clocks = clockNumbers x y; passes = k }
+plannedReply (Planned' c k x y) config clocks = record { number = 0; config = configNumbers c; clocks = clockNumbers x y; passes = k }
 
 -- pll_configure has no clocks, calculate_clocks neither a configuration nor passes
-pub record Configures (y : Reply) (r : ℕ) (config : List ℕ) (passes : ℕ) : Type 0 where
+pub record Configures (y : PlanReply) (r : ℕ) (config : List ℕ) (passes : ℕ) : Type 0 where
   pub answer : r ≡ y .number
   pub config-holds : config ≡ y .config
   pub passes-hold : passes ≡ y .passes
 
-abbrev pub configuredReply : Configured → List ℕ → Reply
+abbrev pub configuredReply : Configured → List ℕ → PlanReply
 configuredReply (NotConfigured n k) config = record { number = n; config = config; clocks = []; passes = k }
-configuredReply (Configured' c k) config = record { number = 0; config = numbersOf c; clocks = []; passes = k }
+configuredReply (Configured' c k) config = record { number = 0; config = configNumbers c; clocks = []; passes = k }
 
-pub record Derives (y : Reply) (r : ℕ) (clocks : List ℕ) : Type 0 where
+pub record Derives (y : PlanReply) (r : ℕ) (clocks : List ℕ) : Type 0 where
   pub answer : r ≡ y .number
   pub clocks-hold : clocks ≡ y .clocks
 
-abbrev pub derivedReply : Derived → List ℕ → Reply
+abbrev pub derivedReply : Derived → List ℕ → PlanReply
 derivedReply (NotDerived n) clocks = record { number = n; config = []; clocks = clocks; passes = 0 }
 derivedReply (At x y) clocks = record { number = 0; config = []; clocks = clockNumbers x y; passes = 0 }

@@ -1,4 +1,5 @@
 // Windows from numbers, and an answer of the search as numbers.
+use super::SEARCH;
 use kinds::Hertz;
 use pll::Found;
 use pll::Sought;
@@ -44,8 +45,8 @@ pub fn number_of(found: Found) -> u32
 }
 
 // Passes, M, N, P, Q: zeros where there is none.
-pub fn numbers_of(found: Found) -> [u32; 5]
-    ensures { λ r. ⌜ r ≡ spec.numbersOf found ⌝ }
+pub fn found_numbers(found: Found) -> [u32; SEARCH]
+    ensures { λ r. ⌜ r ≡ spec.foundNumbers found ⌝ }
 {
     match found {
         Found::Pair { m, n, p, q, passes } => [passes, m.0, n.0, divider(p), divider(q)],

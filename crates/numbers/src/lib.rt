@@ -15,6 +15,13 @@ ghost use mathlib.Core.Path.{_≡_};
 ghost use Rattle.kinds.specs.Codes.{flagOf, askedHertz};
 ghost use Rattle.numbers.specs.Numbers as spec;
 
+// How many numbers a configuration is, clocks with their field codes, and an answer of the search.
+pub const CONFIG: usize = 30;
+
+pub const CLOCKS: usize = 16;
+
+pub const SEARCH: usize = 5;
+
 pub(crate) fn flag(on: bool) -> u32
     ensures { λ r. ⌜ r ≡ flagOf on ⌝ }
 {
@@ -79,8 +86,8 @@ fn choice(k: Choice48) -> u32
     }
 }
 
-pub fn numbers_of(c: CFGR) -> [u32; 30]
-    ensures { λ r. ⌜ r ≡ spec.numbersOf c ⌝ }
+pub fn config_numbers(c: CFGR) -> [u32; CONFIG]
+    ensures { λ r. ⌜ r ≡ spec.configNumbers c ⌝ }
 {
     let s = c.sources;
     let hse = s.hse;

@@ -1,7 +1,9 @@
 // Answers of pll_configure, calculate_clocks and plan as numbers.
+use super::CLOCKS;
+use super::CONFIG;
 use super::asked_hertz;
+use super::config_numbers;
 use super::flag;
-use super::numbers_of;
 use clocks::Clocks;
 use clocks::Derived;
 use clocks::InternalRCCConfig;
@@ -11,7 +13,7 @@ ghost use mathlib.Core.Path.{_≡_};
 ghost use Rattle.numbers.specs.Plans as spec;
 
 // SYSCLK, HCLK, PCLK1, PCLK2, both timers; HPRE, PPRE1, PPRE2, wait states, scale, over-drive; 48 MHz valid, HSE, LSE, LSI.
-pub fn clock_numbers(clocks: Clocks, config: InternalRCCConfig) -> [u32; 16]
+pub fn clock_numbers(clocks: Clocks, config: InternalRCCConfig) -> [u32; CLOCKS]
     ensures { λ r. ⌜ r ≡ spec.clockNumbers clocks config ⌝ }
 {
     let hse = clocks.hse;
@@ -37,7 +39,7 @@ pub fn clock_numbers(clocks: Clocks, config: InternalRCCConfig) -> [u32; 16]
     ]
 }
 
-pub fn configured(answer: Configured, config: &mut [u32; 30], passes: &mut u32) -> u32
+pub fn configured(answer: Configured, config: &mut [u32; CONFIG], passes: &mut u32) -> u32
     ensures { λ r. ⌜ spec.Configures (spec.configuredReply answer (now (config .entry))) r (now (config .exit)) (now (passes .exit)) ⌝ }
 {
     match answer {
@@ -47,13 +49,13 @@ pub fn configured(answer: Configured, config: &mut [u32; 30], passes: &mut u32) 
         }
         Configured::Ready { cfgr, passes: k } => {
             *passes = k;
-            *config = numbers_of(cfgr);
+            *config = config_numbers(cfgr);
             0
         }
     }
 }
 
-pub fn derived(answer: Derived, clocks: &mut [u32; 16]) -> u32
+pub fn derived(answer: Derived, clocks: &mut [u32; CLOCKS]) -> u32
     ensures { λ r. ⌜ spec.Derives (spec.derivedReply answer (now (clocks .entry))) r (now (clocks .exit)) ⌝ }
 {
     match answer {
@@ -70,8 +72,8 @@ pub fn derived(answer: Derived, clocks: &mut [u32; 16]) -> u32
 
 pub fn planned(
     answer: Planned,
-    config: &mut [u32; 30],
-    clocks: &mut [u32; 16],
+    config: &mut [u32; CONFIG],
+    clocks: &mut [u32; CLOCKS],
     passes: &mut u32,
 ) -> u32
     ensures { λ r. ⌜ spec.Plans (spec.plannedReply answer (now (config .entry)) (now (clocks .entry))) r (now (config .exit)) (now (clocks .exit)) (now (passes .exit)) ⌝ }
@@ -88,7 +90,7 @@ pub fn planned(
             config: y,
         } => {
             *passes = k;
-            *config = numbers_of(cfgr);
+            *config = config_numbers(cfgr);
             *clocks = clock_numbers(x, y);
             0
         }

@@ -9,6 +9,7 @@ use lib.Dec.{ltb}
 use lib.ListN.{take}
 use borrow.Author.Tests.{ltb-true, ltb-false, lt-ltb, le-ltb}
 use Rattle.pll.proofs.Dividers.{split}
+use Rattle.record.specs.Places.{RECORD}
 use Rattle.planner.specs.Output.{textOf, Holds}
 use Rattle.planner.specs.Asking.{askedOf, answeredOf, restOf, Took, Stepped, Asked, last, more}
 use Rattle.planner.specs.declared.Taken.{Taken}
@@ -18,7 +19,7 @@ use Rattle.planner.specs.declared.Piece.{Piece}
 pub answered-within : (t : Taken) → answeredOf t ≤ t .got
 answered-within t = by (t .failed)
   where
-    by : (b : Bool) → cond b (t .got / 64 * 64) (t .got) ≤ t .got
+    by : (b : Bool) → cond b (t .got / RECORD * RECORD) (t .got) ≤ t .got
     by true = omega arith
     by false = omega arith
 
@@ -31,7 +32,7 @@ pub rest-short : (left want got : ℕ) (w : Bool) → not w ≡ false → got < 
 rest-short left want got false e h = absurd (true≢false e)
 rest-short left want got true e h = rw (lt-ltb got want h) refl
 
-pub rest-whole : (left want got : ℕ) (w : Bool) → not w ≡ false → want ≤ got → left - got / 64 ≡ restOf left want got w
+pub rest-whole : (left want got : ℕ) (w : Bool) → not w ≡ false → want ≤ got → left - got / RECORD ≡ restOf left want got w
 rest-whole left want got false e h = absurd (true≢false e)
 rest-whole left want got true e h = rw (le-ltb got want h) refl
 
@@ -40,7 +41,7 @@ pub rest-less : (left got : ℕ) (w : Bool) → 0 < left → got ≤ askedOf lef
 rest-less left got false h i = h
 rest-less left got true h i = by (ltb got (askedOf left)) refl
   where
-    by : (b : Bool) → ltb got (askedOf left) ≡ b → cond b 0 (left - got / 64) < left
+    by : (b : Bool) → ltb got (askedOf left) ≡ b → cond b 0 (left - got / RECORD) < left
     by true e = h
     by false e = let g = ltb-false got (askedOf left) e in omega arith
 
@@ -76,7 +77,7 @@ module _ {left : ℕ} {input out : List ℕ} {p : Piece} (s : Stepped left input
       forth false e z = inr (inr e)
       forth true e z = by (ltb got (askedOf left)) refl z
         where
-          by : (b : Bool) → ltb got (askedOf left) ≡ b → cond b 0 (left - got / 64) ≡ 0 → End
+          by : (b : Bool) → ltb got (askedOf left) ≡ b → cond b 0 (left - got / RECORD) ≡ 0 → End
           by true g z = inr (inl (ltb-true got (askedOf left) g))
           by false g z = inl (let a = answered in omega arith)
 
@@ -86,7 +87,7 @@ module _ {left : ℕ} {input out : List ℕ} {p : Piece} (s : Stepped left input
       back true e (inr (inl z)) = sym (rest-short left (askedOf left) got true refl z)
       back true e (inl z) = by (ltb got (askedOf left)) refl
         where
-          by : (b : Bool) → ltb got (askedOf left) ≡ b → cond b 0 (left - got / 64) ≡ 0
+          by : (b : Bool) → ltb got (askedOf left) ≡ b → cond b 0 (left - got / RECORD) ≡ 0
           by true g = refl
           by false g = let i = ltb-false got (askedOf left) g in omega arith
 
@@ -97,7 +98,7 @@ module _ {left : ℕ} {input out : List ℕ} {p : Piece} (s : Stepped left input
       got : ℕ
       got = answeredOf (p .taken)
 
-      whole : (b : Bool) → ltb got (askedOf left) ≡ b → p .left ≡ cond b 0 (left - got / 64) → p .left + 1024 ≡ left
+      whole : (b : Bool) → ltb got (askedOf left) ≡ b → p .left ≡ cond b 0 (left - got / RECORD) → p .left + 1024 ≡ left
       whole true g e = absurd (n e)
       whole false g e = let i = ltb-false got (askedOf left) g in let a = answered in omega arith
 
@@ -110,6 +111,6 @@ module _ {left : ℕ} {input out : List ℕ} {p : Piece} (s : Stepped left input
   failed-is-last h e = last-exactly h .1 (inr (inl (let a = answered-within (p .taken) in let b = s .took .short e in omega arith)))
 
 -- ---- in all, at most the bytes of the records that may be read
-pub never-past-the-last : {left bytes : ℕ} → Asked left bytes → bytes ≤ 64 * left
+pub never-past-the-last : {left bytes : ℕ} → Asked left bytes → bytes ≤ RECORD * left
 never-past-the-last last = omega arith
 never-past-the-last (more e a) = let h = never-past-the-last a in omega arith

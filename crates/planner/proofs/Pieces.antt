@@ -6,7 +6,8 @@ use native.Mathlib.Omega.{arith}
 use native.Mathlib.Numerals.{add-one}
 use lib.ListN.{length, take, drop, length-take}
 use lib.Seq.{take-at, length-take-le}
-use Rattle.text.specs.Line.{noLine}
+use Rattle.record.specs.Places.{RECORD}
+use Rattle.text.specs.Line.{LINE, noLine}
 use Rattle.text.specs.Placing.{Wrote, Placing}
 use Rattle.text.specs.declared.Placed.{Placed}
 use Rattle.text.specs.declared.Placed.the-variants.{Next, NoRoom}
@@ -29,7 +30,7 @@ unfolding linesOf
 begun s b = record { wrote = writing.none s 0; near = omega arith }
 
 -- one record more
-pub more : {s t u : List ℕ} {at n : ℕ} (b : List ℕ) (k size : ℕ) → size ≡ 64 → Filled s 0 (linesOf b k) (157 * k) t at → Filled t at (answerLine (take size (drop (64 * k) b))) 157 u n → Filled s 0 (linesOf b (k + 1)) (157 * (k + 1)) u n
+pub more : {s t u : List ℕ} {at n : ℕ} (b : List ℕ) (k size : ℕ) → size ≡ RECORD → Filled s 0 (linesOf b k) (LINE * k) t at → Filled t at (answerLine (take size (drop (RECORD * k) b))) LINE u n → Filled s 0 (linesOf b (k + 1)) (LINE * (k + 1)) u n
 unfolding linesOf
 more b k size e p q = record {
   wrote = rw add-one (writing.join (p .wrote) (rw e at (q .wrote)));
@@ -41,14 +42,14 @@ tail-of zero h = absurd (h refl)
 tail-of (suc n) h = refl
 
 -- whole records alone
-pub without-tail : (b : List ℕ) → length b % 64 ≡ 0 → linesOf b (length b / 64) ≡ textOf b
+pub without-tail : (b : List ℕ) → length b % RECORD ≡ 0 → linesOf b (length b / RECORD) ≡ textOf b
 unfolding textOf
 without-tail b e = rw (e, append-nil)
 
 -- a short tail after them
-pub with-tail : (b : List ℕ) (from size : ℕ) → size < 64 → (length b % 64 ≡ 0 → ⊥) → linesOf b (length b / 64) ++ answerLine (take size (drop from b)) ≡ textOf b
+pub with-tail : (b : List ℕ) (from size : ℕ) → size < RECORD → (length b % RECORD ≡ 0 → ⊥) → linesOf b (length b / RECORD) ++ answerLine (take size (drop from b)) ≡ textOf b
 unfolding textOf
-with-tail b from size l e = rw (tail-of (length b % 64) e, another-length (take size (drop from b)) (λ z. omega (arith, length-take size (drop from b))))
+with-tail b from size l e = rw (tail-of (length b % RECORD) e, another-length (take size (drop from b)) (λ z. omega (arith, length-take size (drop from b))))
 
 -- the buffer begins with what was put at its start
 pub begins : {s x t : List ℕ} {n : ℕ} → Wrote s 0 x t n → n ≤ length s → Begins t n x

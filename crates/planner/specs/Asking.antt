@@ -6,22 +6,23 @@ use mathlib.Core.Bool.{Bool, true, cond}
 use mathlib.Core.List.{List}
 use lib.Dec.{ltb}
 use lib.ListN.{take}
+use Rattle.record.specs.Places.{RECORD}
 use Rattle.planner.specs.Output.{textOf, Holds}
 use Rattle.planner.specs.declared.Taken.{Taken}
 use Rattle.planner.specs.declared.Piece.{Piece}
 
 -- a piece is 1,024 records, or those that may still be read: bytes
 abbrev pub askedOf : ℕ → ℕ
-askedOf left = min 65536 (64 * left)
+askedOf left = min 65536 (RECORD * left)
 
 -- all that came in is answered or, after a failed read, the whole records among it
 abbrev pub answeredOf : Taken → ℕ
-answeredOf t = cond (t .failed) (t .got / 64 * 64) (t .got)
+answeredOf t = cond (t .failed) (t .got / RECORD * RECORD) (t .got)
 
 -- after a piece of so many bytes where `want` were asked for: no record more if its text could not be written or it was short, else
 -- its own fewer
 abbrev pub restOf : ℕ → ℕ → ℕ → Bool → ℕ
-restOf left want got written = cond written (cond (ltb got want) 0 (left - got / 64)) 0
+restOf left want got written = cond written (cond (ltb got want) 0 (left - got / RECORD)) 0
 
 -- what comes in where `want` bytes are asked for: no more, and fewer where a read fails
 pub record Took (want : ℕ) (t : Taken) : Type 0 where

@@ -3,14 +3,15 @@ use Prim.Native.Nat.{ℕ, zero, suc, _+_, _*_, _/_, _%_, _≤_}
 use mathlib.Core.Path.{_≡_}
 use mathlib.Core.List.{List, [], _∷_, _++_}
 use lib.ListN.{length, take, drop}
+use Rattle.record.specs.Places.{RECORD}
 use Rattle.answer.specs.Answer.{answerLine}
 use Rattle.text.specs.Line.{noLine}
 use Rattle.text.specs.Placing.{Wrote}
 
--- one line for each of the first k records of 64 bytes
+-- one line for each of the first k records
 unfoldable pub linesOf : List ℕ → ℕ → List ℕ
 linesOf b zero = []
-linesOf b (suc k) = linesOf b k ++ answerLine (take 64 (drop (64 * k) b))
+linesOf b (suc k) = linesOf b k ++ answerLine (take RECORD (drop (RECORD * k) b))
 
 -- a short tail is a line `no 14`
 abbrev pub tailOf : ℕ → List ℕ
@@ -18,11 +19,11 @@ tailOf zero = []
 tailOf (suc n) = noLine 14
 
 unfoldable pub textOf : List ℕ → List ℕ
-textOf b = linesOf b (length b / 64) ++ tailOf (length b % 64)
+textOf b = linesOf b (length b / RECORD) ++ tailOf (length b % RECORD)
 
 -- what the program writes of its whole input: up to 1,000,000 records are read
 abbrev pub outputOf : List ℕ → List ℕ
-outputOf b = textOf (take 64000000 b)
+outputOf b = textOf (take (RECORD * 1000000) b)
 
 -- pieces of input one after the other, and the text of each in that order
 abbrev pub together : List (List ℕ) → List ℕ
@@ -36,7 +37,7 @@ textsOf (p ∷ ps) = textOf p ++ textsOf ps
 -- each piece is of whole records
 abbrev pub WholeRecords : List (List ℕ) → Type 0
 WholeRecords [] = Unit
-WholeRecords (p ∷ ps) = (length p % 64 ≡ 0) × WholeRecords ps
+WholeRecords (p ∷ ps) = (length p % RECORD ≡ 0) × WholeRecords ps
 
 -- a text of at most so many bytes was put
 pub record Filled (s : List ℕ) (at : ℕ) (text : List ℕ) (most : ℕ) (t : List ℕ) (next : ℕ) : Type 0 where

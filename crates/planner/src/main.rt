@@ -4,10 +4,13 @@ mod lines;
 use libc::STDERR_FILENO;
 use libc::STDIN_FILENO;
 use libc::STDOUT_FILENO;
+use record::RECORD;
 ghost use mathlib.Core.Path.{_≡_};
 ghost use mathlib.Core.Bool.{true};
 ghost use Prim.Native.Nat.{_+_, _*_, _-_, _/_, _<_, _≤_};
 ghost use lib.ListN.{length, take};
+ghost use Rattle.record.specs.Places as places;
+ghost use Rattle.text.specs.Line as line;
 ghost use Rattle.planner.specs.Output.{textOf, Holds};
 ghost use Rattle.planner.specs.Asking.{askedOf, answeredOf, restOf, Took, Stepped};
 
@@ -74,7 +77,7 @@ fn answered(taken: Taken) -> usize
     ensures { λ r. ⌜ r ≡ answeredOf taken ⌝ }
 {
     if taken.failed {
-        return taken.got / 64 * 64;
+        return taken.got / RECORD * RECORD;
     }
     taken.got
 }
@@ -84,12 +87,16 @@ fn wanted(left: usize) -> usize
     requires { ⌜ left ≤ 1000000 ⌝ }
     ensures { λ r. ⌜ r ≡ askedOf left ⌝ }
 {
-    if 64 * left < PIECE { 64 * left } else { PIECE }
+    if RECORD * left < PIECE {
+        RECORD * left
+    } else {
+        PIECE
+    }
 }
 
 // Writes the text of the bytes that came in. No contract can say what a read or a write moved: out holds what is handed over.
 fn write_lines(input: &[u8], got: usize, out: &mut [u8]) -> bool
-    requires { ⌜ (got ≤ length (now input)) × (157 * (got / 64 + 1) ≤ length (now out)) ⌝ }
+    requires { ⌜ (got ≤ length (now input)) × (line.LINE * (got / places.RECORD + 1) ≤ length (now out)) ⌝ }
     ensures { λ _. ⌜ Holds (now (out .exit)) (textOf (take got (now (input .entry)))) ⌝ }
 {
     let n = lines::put_text(&input[..got], out);
@@ -98,7 +105,7 @@ fn write_lines(input: &[u8], got: usize, out: &mut [u8]) -> bool
 
 // The records that may still be read after a piece: none if its text could not be written or it was short, else its own fewer.
 fn left_after(left: usize, want: usize, got: usize, written: bool) -> usize
-    requires { ⌜ got ≤ 64 * left ⌝ }
+    requires { ⌜ got ≤ places.RECORD * left ⌝ }
     ensures { λ r. ⌜ r ≡ restOf left want got written ⌝ }
 {
     if !written {
@@ -107,7 +114,7 @@ fn left_after(left: usize, want: usize, got: usize, written: bool) -> usize
     if got < want {
         return 0;
     }
-    left - got / 64
+    left - got / RECORD
 }
 
 // A line on standard error, if something is wrong.

@@ -8,6 +8,7 @@ use native.Mathlib.Omega.{arith}
 use lib.ListN.{length}
 use lib.Dec.{eqb}
 use borrow.Author.Tests.{eqb-true, eqb-false}
+use Rattle.record.specs.Places.{RECORD}
 use Rattle.record.specs.Layout.{Rule, reserved-bits, child, code, blank, number, faultOf, layout, blankRun, blanks, breachOf}
 use Rattle.record.specs.Config.{cfgrOf}
 use Rattle.record.specs.Reading.{numberOf, judgedOf, readOf}
@@ -25,8 +26,8 @@ use Rattle.record.proofs.Kept.{well-formed, layout-kept}
 -- the three ways that a reading comes out
 data Read (b : List ℕ) : Reading → Type 0 where
   well : WellFormed b → Read b (Config (cfgrOf b))
-  other-length : (length b ≡ 64 → ⊥) → Read b (Malformed Length)
-  lowest : {fault : Fault} → length b ≡ 64 → Lowest b layout fault → Read b (Malformed fault)
+  other-length : (length b ≡ RECORD → ⊥) → Read b (Malformed Length)
+  lowest : {fault : Fault} → length b ≡ RECORD → Lowest b layout fault → Read b (Malformed fault)
 
 -- the layout's rules stand in the order of their offsets
 in-order : rising 0 layout ≡ true
@@ -37,17 +38,17 @@ looked-at : (b : List ℕ) → First b layout (breachOf b)
 unfolding breachOf
 looked-at b = first b 0 layout in-order
 
-judged : (b : List ℕ) {found : Found} → length b ≡ 64 → First b layout found → Read b (judgedOf found b)
+judged : (b : List ℕ) {found : Found} → length b ≡ RECORD → First b layout found → Read b (judgedOf found b)
 judged b whole (kept k) = well (well-formed b whole k)
 judged b whole (breached l) = lowest whole l
 
-by-length : (b : List ℕ) (t : Bool) → eqb (length b) 64 ≡ t → Read b (cond t (judgedOf (breachOf b) b) (Malformed Length))
+by-length : (b : List ℕ) (t : Bool) → eqb (length b) RECORD ≡ t → Read b (cond t (judgedOf (breachOf b) b) (Malformed Length))
 by-length b true e = judged b (eqb-true _ _ e) (looked-at b)
 by-length b false e = other-length (eqb-false _ _ e)
 
 read : (b : List ℕ) → Read b (readOf b)
 unfolding readOf
-read b = by-length b (eqb (length b) 64) refl
+read b = by-length b (eqb (length b) RECORD) refl
 
 -- malformed is no configuration
 apart : {c : CFGR} {fault : Fault} → Malformed fault ≡ Config c → ⊥
@@ -82,14 +83,14 @@ malformed b (well w) n = absurd (n w)
 malformed b (other-length h) n = (_, refl)
 malformed b (lowest whole l) n = (_, refl)
 
-named : (b : List ℕ) {r : Reading} {fault : Fault} → Read b r → r ≡ Malformed fault → length b ≡ 64 → Lowest b layout fault
+named : (b : List ℕ) {r : Reading} {fault : Fault} → Read b r → r ≡ Malformed fault → length b ≡ RECORD → Lowest b layout fault
 named b (well w) e h = absurd (apart (sym e))
 named b (other-length n) e h = absurd (n h)
 named b {fault = x} (lowest {fault} whole l) e h =
     let p : fault ≡ x = cc in
     rw p at l
 
-length-seen : (b : List ℕ) {r : Reading} → Read b r → (r ≡ Malformed Length) ↔ (length b ≡ 64 → ⊥)
+length-seen : (b : List ℕ) {r : Reading} → Read b r → (r ≡ Malformed Length) ↔ (length b ≡ RECORD → ⊥)
 length-seen b (well w) = (λ e. absurd (apart (sym e)), λ n. absurd (n (w .whole)))
 length-seen b (other-length n) = (λ e. n, λ n′. refl)
 length-seen b (lowest {fault} whole l) =
@@ -104,11 +105,11 @@ pub else-malformed : (b : List ℕ) → (WellFormed b → ⊥) → (fault : Faul
 else-malformed b = malformed b (read b)
 
 -- the length is the fault exactly if it isn't 64
-pub length-exactly : (b : List ℕ) → (readOf b ≡ Malformed Length) ↔ (length b ≡ 64 → ⊥)
+pub length-exactly : (b : List ℕ) → (readOf b ≡ Malformed Length) ↔ (length b ≡ RECORD → ⊥)
 length-exactly b = length-seen b (read b)
 
 -- the fault of 64 bytes is a breach of the layout, and no breach is at a lower offset
-pub lowest-named : (b : List ℕ) (fault : Fault) → readOf b ≡ Malformed fault → length b ≡ 64 → Lowest b layout fault
+pub lowest-named : (b : List ℕ) (fault : Fault) → readOf b ≡ Malformed fault → length b ≡ RECORD → Lowest b layout fault
 lowest-named b fault = named b (read b)
 
 -- whatever the breach, its number is 14

@@ -9,6 +9,7 @@ use native.Mathlib.Omega.{arith}
 use lib.ListN.{length, getD}
 use borrow.Author.Tests.{ltb-true, lt-ltb, leb-true, le-leb, eqb-true, eq-eqb, not-false}
 use Rattle.record.specs.Numbers.{flagOf, u32At}
+use Rattle.record.specs.Places.{RECORD}
 use Rattle.record.specs.Layout.{keeps, number, child, layout, blankRun, blanks}
 use Rattle.record.specs.WellFormed.{WellFormed}
 use Rattle.record.proofs.First.{Kept}
@@ -62,7 +63,7 @@ module _ (b : List ℕ) where
   parent-kept bit parent f = off-or _ _ (λ e. f (not-false _ e))
 
   -- every rule of the layout kept: each fact of a well-formed record
-  pub well-formed : length b ≡ 64 → Kept b layout → WellFormed b
+  pub well-formed : length b ≡ RECORD → Kept b layout → WellFormed b
   unfolding blanks
   well-formed whole (bits, (hse-by, (lse-by, (pllsai, (p, (sai-p, (m1, (p1, (m2, (p2, (b13, (hse, (hclk, (sysclk, (pclk1, (pclk2, tail)))))))))))))))) =
       record {

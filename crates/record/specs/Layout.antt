@@ -6,7 +6,7 @@ use lib.ListN.{getD}
 use lib.Dec.{eqb, ltb, leb}
 use Rattle.record.specs.Numbers.{u16At, u32At, flagOf}
 use Rattle.record.specs.Places.{hseFlag, hseBypassFlag, hclkFlag, sysclkFlag, pclk1Flag, pclk2Flag, lseFlag, lseBypassFlag, choice48Flag, choicePllsaiFlag}
-use Rattle.record.specs.Places.{pAt, pllsaiPAt, mco1At, mco1preAt, mco2At, mco2preAt, hseAt, hclkAt, sysclkAt, pclk1At, pclk2At}
+use Rattle.record.specs.Places.{RECORD, pAt, pllsaiPAt, mco1At, mco1preAt, mco2At, mco2preAt, hseAt, hclkAt, sysclkAt, pclk1At, pclk2At}
 use Rattle.record.specs.declared.Fault.{Fault}
 use Rattle.record.specs.declared.Fault.the-variants.{Reserved, Code, Unasked}
 use Rattle.record.specs.declared.faults.Found.{Found}
@@ -61,7 +61,7 @@ numberRules =
 
 -- the whole layout, in the order of the offsets; 40 to 63 zero
 abbrev pub layout : List Rule
-layout = flagRules ++ byteRules ++ numberRules ++ blanks 40 64
+layout = flagRules ++ byteRules ++ numberRules ++ blanks 40 RECORD
 
 -- whether the bytes keep a rule
 abbrev pub keeps : List ℕ → Rule → Bool

@@ -1,5 +1,9 @@
--- Document 01, "Request record": the flags and where each value stands, in its order.
+-- Document 01, "Request record": its length, the flags and where each value stands, in its order.
 use Prim.Native.Nat.{ℕ}
+
+-- how many bytes a record has
+abbrev pub RECORD : ℕ
+RECORD = 64
 
 -- byte 0, u16 flags from bit 0, each by its bit's value; bits 14, 15 zero
 abbrev pub hseFlag : ℕ

@@ -4,6 +4,7 @@ use mathlib.Core.Bool.{cond}
 use mathlib.Core.List.{List, [], _∷_, _++_}
 use lib.ListN.{length, replicate}
 use lib.Dec.{eqb}
+use Rattle.record.specs.Places.{RECORD}
 use Rattle.record.specs.Layout.{breachOf}
 use Rattle.record.specs.Config.{cfgrOf}
 use Rattle.record.specs.declared.Fault.{Fault}
@@ -26,7 +27,7 @@ judgedOf (At fault) b = Malformed fault
 
 -- 64 bytes that breach nothing: their configuration
 unfoldable pub readOf : List ℕ → Reading
-readOf b = cond (eqb (length b) 64) (judgedOf (breachOf b) b) (Malformed Length)
+readOf b = cond (eqb (length b) RECORD) (judgedOf (breachOf b) b) (Malformed Length)
 
 -- the record of the Rust's defaults: M 2, P code 0, Q 2, PLLSAI P code 0, Q 2, PLLI2S R 2, Q 2, MCO codes 0;
 -- N 50, PLLSAI N 192, PLLI2S N 192; rest zero

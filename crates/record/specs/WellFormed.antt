@@ -6,16 +6,16 @@ use mathlib.Core.List.{List}
 use lib.ListN.{length, getD}
 use Rattle.record.specs.Numbers.{u16At, u32At, flagOf}
 use Rattle.record.specs.Places.{hseFlag, hseBypassFlag, hclkFlag, sysclkFlag, pclk1Flag, pclk2Flag, lseFlag, lseBypassFlag, choice48Flag, choicePllsaiFlag}
-use Rattle.record.specs.Places.{pAt, pllsaiPAt, mco1At, mco1preAt, mco2At, mco2preAt, hseAt, hclkAt, sysclkAt, pclk1At, pclk2At}
+use Rattle.record.specs.Places.{RECORD, pAt, pllsaiPAt, mco1At, mco1preAt, mco2At, mco2preAt, hseAt, hclkAt, sysclkAt, pclk1At, pclk2At}
 
 pub record WellFormed (b : List ℕ) : Type 0 where
   -- 64 bytes
-  pub whole : length b ≡ 64
+  pub whole : length b ≡ RECORD
   -- bits 14, 15 zero
   pub bits-14-15 : u16At b 0 < 16384
   -- 13 zero, 40 to 63 zero
   pub byte-13 : getD b 13 0 ≡ 0
-  pub bytes-40-to-63 : (at : ℕ) → 40 ≤ at → at < 64 → getD b at 0 ≡ 0
+  pub bytes-40-to-63 : (at : ℕ) → 40 ≤ at → at < RECORD → getD b at 0 ≡ 0
   -- codes: P 0..3, MCO 0..3, MCOPRE 0..4
   pub p-code : getD b pAt 0 ≤ 3
   pub pllsai-p-code : getD b pllsaiPAt 0 ≤ 3

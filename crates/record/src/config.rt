@@ -27,6 +27,7 @@ ghost use mathlib.Core.Path.{_≡_};
 ghost use Prim.Native.Nat.{_+_, _<_, _≤_};
 ghost use lib.ListN.{length};
 ghost use Rattle.record.specs.Config as spec;
+ghost use Rattle.record.specs.Places as places;
 
 // A divider is a byte, a factor a u16, a frequency a u32.
 fn divider_at(bytes: &[u8], at: usize) -> Divider
@@ -153,7 +154,7 @@ fn request_at(bytes: &[u8], value: u16, at: usize) -> Request
 }
 
 fn sources_at(bytes: &[u8]) -> Sources
-    requires { ⌜ 64 ≤ length (now bytes) ⌝ }
+    requires { ⌜ places.RECORD ≤ length (now bytes) ⌝ }
     ensures { λ r. ⌜ r ≡ spec.sourcesOf (now (bytes .entry)) ⌝ }
 {
     let freq = hertz_at(bytes, offsets::HSE);
@@ -168,7 +169,7 @@ fn sources_at(bytes: &[u8]) -> Sources
 }
 
 fn requests_at(bytes: &[u8]) -> Requests
-    requires { ⌜ 64 ≤ length (now bytes) ⌝ }
+    requires { ⌜ places.RECORD ≤ length (now bytes) ⌝ }
     ensures { λ r. ⌜ r ≡ spec.requestsOf (now (bytes .entry)) ⌝ }
 {
     let hclk = request_at(bytes, flags::HCLK, offsets::HCLK);
@@ -184,7 +185,7 @@ fn requests_at(bytes: &[u8]) -> Requests
 }
 
 fn pll_at(bytes: &[u8]) -> Pll
-    requires { ⌜ 64 ≤ length (now bytes) ⌝ }
+    requires { ⌜ places.RECORD ≤ length (now bytes) ⌝ }
     ensures { λ r. ⌜ r ≡ spec.pllOf (now (bytes .entry)) ⌝ }
 {
     let use_pll = flag(bytes, flags::USE_PLL);
@@ -207,7 +208,7 @@ fn pll_at(bytes: &[u8]) -> Pll
 }
 
 fn sai_at(bytes: &[u8]) -> Sai
-    requires { ⌜ 64 ≤ length (now bytes) ⌝ }
+    requires { ⌜ places.RECORD ≤ length (now bytes) ⌝ }
     ensures { λ r. ⌜ r ≡ spec.saiOf (now (bytes .entry)) ⌝ }
 {
     let use_pllsai = flag(bytes, flags::PLLSAI);
@@ -223,7 +224,7 @@ fn sai_at(bytes: &[u8]) -> Sai
 }
 
 fn i2s_at(bytes: &[u8]) -> I2s
-    requires { ⌜ 64 ≤ length (now bytes) ⌝ }
+    requires { ⌜ places.RECORD ≤ length (now bytes) ⌝ }
     ensures { λ r. ⌜ r ≡ spec.i2sOf (now (bytes .entry)) ⌝ }
 {
     let use_plli2s = flag(bytes, flags::PLLI2S);
@@ -239,7 +240,7 @@ fn i2s_at(bytes: &[u8]) -> I2s
 }
 
 fn mco_at(bytes: &[u8]) -> Mco
-    requires { ⌜ 64 ≤ length (now bytes) ⌝ }
+    requires { ⌜ places.RECORD ≤ length (now bytes) ⌝ }
     ensures { λ r. ⌜ r ≡ spec.mcoOf (now (bytes .entry)) ⌝ }
 {
     let mco1 = mco1_of(byte(bytes, offsets::MCO1));
@@ -255,7 +256,7 @@ fn mco_at(bytes: &[u8]) -> Mco
 }
 
 pub(crate) fn cfgr_at(bytes: &[u8]) -> CFGR
-    requires { ⌜ 64 ≤ length (now bytes) ⌝ }
+    requires { ⌜ places.RECORD ≤ length (now bytes) ⌝ }
     ensures { λ r. ⌜ r ≡ spec.cfgrOf (now (bytes .entry)) ⌝ }
 {
     let sources = sources_at(bytes);

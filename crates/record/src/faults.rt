@@ -10,6 +10,7 @@ ghost use mathlib.Core.Path.{_≡_};
 ghost use Prim.Native.Nat.{_+_, _<_, _≤_};
 ghost use lib.ListN.{length};
 ghost use Rattle.record.specs.Layout as spec;
+ghost use Rattle.record.specs.Places as places;
 
 // What the rules looked at so far have shown.
 pub enum Found {
@@ -29,7 +30,7 @@ fn note(found: Found, kept: bool, fault: Fault) -> Found
 
 // Bits 14, 15 of the flags are zero.
 fn reserved_bits(bytes: &[u8], found: Found) -> Found
-    requires { ⌜ 64 ≤ length (now bytes) ⌝ }
+    requires { ⌜ places.RECORD ≤ length (now bytes) ⌝ }
     ensures { λ r. ⌜ r ≡ spec.looked (now (bytes .entry)) found spec.reserved-bits ⌝ }
 {
     note(
@@ -41,7 +42,7 @@ fn reserved_bits(bytes: &[u8], found: Found) -> Found
 
 // A bypass or PLLSAI-choice bit needs its parent.
 fn child(bytes: &[u8], found: Found, bit: u16, parent: u16) -> Found
-    requires { ⌜ (0 < bit) × (0 < parent) × (64 ≤ length (now bytes)) ⌝ }
+    requires { ⌜ (0 < bit) × (0 < parent) × (places.RECORD ≤ length (now bytes)) ⌝ }
     ensures { λ r. ⌜ r ≡ spec.looked (now (bytes .entry)) found (spec.child bit parent) ⌝ }
 {
     note(
@@ -94,7 +95,7 @@ fn blanks(bytes: &[u8], found: Found, from: usize, end: usize) -> Found
 }
 
 fn flag_faults(bytes: &[u8], found: Found) -> Found
-    requires { ⌜ 64 ≤ length (now bytes) ⌝ }
+    requires { ⌜ places.RECORD ≤ length (now bytes) ⌝ }
     ensures { λ r. ⌜ r ≡ spec.breachFrom (now (bytes .entry)) found spec.flagRules ⌝ }
 {
     let f1 = reserved_bits(bytes, found);
@@ -104,7 +105,7 @@ fn flag_faults(bytes: &[u8], found: Found) -> Found
 }
 
 fn byte_faults(bytes: &[u8], found: Found) -> Found
-    requires { ⌜ 64 ≤ length (now bytes) ⌝ }
+    requires { ⌜ places.RECORD ≤ length (now bytes) ⌝ }
     ensures { λ r. ⌜ r ≡ spec.breachFrom (now (bytes .entry)) found spec.byteRules ⌝ }
 {
     let f1 = code(bytes, found, offsets::P, 3);
@@ -117,7 +118,7 @@ fn byte_faults(bytes: &[u8], found: Found) -> Found
 }
 
 fn number_faults(bytes: &[u8], found: Found) -> Found
-    requires { ⌜ 64 ≤ length (now bytes) ⌝ }
+    requires { ⌜ places.RECORD ≤ length (now bytes) ⌝ }
     ensures { λ r. ⌜ r ≡ spec.breachFrom (now (bytes .entry)) found spec.numberRules ⌝ }
 {
     let f1 = number(bytes, found, flags::HSE, offsets::HSE);
@@ -129,11 +130,11 @@ fn number_faults(bytes: &[u8], found: Found) -> Found
 
 // The whole layout.
 pub(crate) fn find_fault(bytes: &[u8]) -> Found
-    requires { ⌜ 64 ≤ length (now bytes) ⌝ }
+    requires { ⌜ places.RECORD ≤ length (now bytes) ⌝ }
     ensures { λ r. ⌜ r ≡ spec.breachOf (now (bytes .entry)) ⌝ }
 {
     let f1 = flag_faults(bytes, Found::Fine);
     let f2 = byte_faults(bytes, f1);
     let f3 = number_faults(bytes, f2);
-    blanks(bytes, f3, offsets::TAIL, offsets::END)
+    blanks(bytes, f3, offsets::TAIL, offsets::RECORD)
 }

@@ -7,9 +7,11 @@ mod offsets;
 
 use faults::Found;
 use kinds::CFGR;
+pub use offsets::RECORD;
 ghost use mathlib.Core.Path.{_≡_};
 ghost use Prim.Native.Nat.{_≤_};
 ghost use lib.ListN.{length};
+ghost use Rattle.record.specs.Places as places;
 ghost use Rattle.record.specs.Reading.{judgedOf, readOf};
 
 // Why a record is malformed and at which offset: another length, a reserved bit or byte that isn't zero,
@@ -28,7 +30,7 @@ pub enum Reading {
 
 // With nothing found, the bytes are a configuration.
 fn judge(found: Found, bytes: &[u8]) -> Reading
-    requires { ⌜ 64 ≤ length (now bytes) ⌝ }
+    requires { ⌜ places.RECORD ≤ length (now bytes) ⌝ }
     ensures { λ r. ⌜ r ≡ judgedOf found (now (bytes .entry)) ⌝ }
 {
     match found {
@@ -41,7 +43,7 @@ fn judge(found: Found, bytes: &[u8]) -> Reading
 pub fn read_record(bytes: &[u8]) -> Reading
     ensures { λ r. ⌜ r ≡ readOf (now (bytes .entry)) ⌝ }
 {
-    if bytes.len() == offsets::END {
+    if bytes.len() == RECORD {
         judge(faults::find_fault(bytes), bytes)
     } else {
         Reading::Malformed(Fault::Length)

@@ -1,4 +1,5 @@
-// Where each value of a record stands: the offset of its first byte. The reserved byte and the tail, to the end, are zero.
+// Where each value of a record stands: the offset of its first byte. The reserved byte and the tail, to the end of the record, are
+// zero.
 pub const FLAGS: usize = 0;
 
 pub const M: usize = 2;
@@ -43,4 +44,4 @@ pub const PCLK2: usize = 36;
 
 pub const TAIL: usize = 40;
 
-pub const END: usize = 64;
+pub const RECORD: usize = 64;

@@ -17,6 +17,16 @@ lineOf word ns = word ++ (spaced ns ++ codes "\n")
 abbrev pub longest : List ℕ → List ℕ → ℕ
 longest word ns = length word + 11 * length ns + 1
 
+-- how many quantities the line of a plan has, and the most bytes of that line and of a refusal's
+abbrev pub QUANTITIES : ℕ
+QUANTITIES = 14
+
+abbrev pub LINE : ℕ
+LINE = 157
+
+abbrev pub NOLINE : ℕ
+NOLINE = 14
+
 -- `ok` and the numbers of a plan
 abbrev pub okLine : List ℕ → List ℕ
 okLine ns = lineOf (codes "ok") ns

@@ -9,7 +9,13 @@ ghost use Prim.Native.Nat.{_+_, _*_, _≤_};
 ghost use lib.Dec.{leb};
 ghost use lib.ListN.{length};
 ghost use Rattle.text.specs.Line.{spaced, lineOf, longest, okLine, noLine};
+ghost use Rattle.text.specs.Line as line;
 ghost use Rattle.text.specs.Placing.{Wrote, Placing};
+
+// How many quantities the line of a plan has, and the most bytes of that line.
+pub const QUANTITIES: usize = 14;
+
+pub const LINE: usize = 157;
 
 // Where a line was put: the place after it is handed back; without room for it nothing is put.
 pub enum Placed {
@@ -80,15 +86,15 @@ pub fn put_line(out: &mut [u8], at: usize, word: &[u8], ns: &[u32]) -> Placed
 }
 
 // The line of a plan.
-pub fn ok_line(out: &mut [u8], at: usize, ns: &[u32; 14]) -> Placed
-    ensures { λ r. ⌜ Placing (now (out .entry)) at (okLine (now (ns .entry))) 157 (now (out .exit)) r ⌝ }
+pub fn ok_line(out: &mut [u8], at: usize, ns: &[u32; QUANTITIES]) -> Placed
+    ensures { λ r. ⌜ Placing (now (out .entry)) at (okLine (now (ns .entry))) line.LINE (now (out .exit)) r ⌝ }
 {
     put_line(out, at, b"ok", ns)
 }
 
 // The line of a refusal.
 pub fn no_line(out: &mut [u8], at: usize, number: u32) -> Placed
-    ensures { λ r. ⌜ Placing (now (out .entry)) at (noLine number) 14 (now (out .exit)) r ⌝ }
+    ensures { λ r. ⌜ Placing (now (out .entry)) at (noLine number) line.NOLINE (now (out .exit)) r ⌝ }
 {
     put_line(out, at, b"no", &[number])
 }

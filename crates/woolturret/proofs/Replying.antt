@@ -17,8 +17,8 @@ use Rattle.pll.specs.declared.Window.{Window}
 use Rattle.pll.specs.declared.Found.{Found}
 use Rattle.pll.specs.declared.Outcome.{Outcome}
 use Rattle.pll.specs.declared.Outcome.the-variants.{Refused as OutputRefused, At as OutputAt}
-use Rattle.numbers.specs.Answers.{numbersOf as foundNumbers}
-use Rattle.numbers.specs.Numbers.{numbersOf}
+use Rattle.numbers.specs.Answers.{foundNumbers}
+use Rattle.numbers.specs.Numbers.{configNumbers}
 use Rattle.woolturret.specs.Replies.{Replied, checkReply, callReply, setReply, searchReply, Told}
 use Rattle.calls.specs.declared.named.Named.{Named}
 use Rattle.calls.specs.declared.named.Named.the-variants.{Unknown, Call}
@@ -34,7 +34,7 @@ checked e p = rw (e, p)
 pub unknown : (c : CFGR) {n : Named} (out : List ℕ) → n ≡ Unknown → Replied (callReply c n out) 14 out
 unknown c out e = rw e (record { answer = refl; holds = refl })
 
-pub replied : (c : CFGR) {n : Named} {s : Setter} {t : Setting} {l : List ℕ} (out : List ℕ) → n ≡ Call s → t ≡ callOf c s → l ≡ numbersOf (t .cfgr) → Replied (callReply c n out) (t .refusal) l
+pub replied : (c : CFGR) {n : Named} {s : Setter} {t : Setting} {l : List ℕ} (out : List ℕ) → n ≡ Call s → t ≡ callOf c s → l ≡ configNumbers (t .cfgr) → Replied (callReply c n out) (t .refusal) l
 replied c out e p q = rw (e, q, p) (record { answer = refl; holds = refl })
 
 pub malformed : {x : Reading} {f : Fault} (n : Named) (out : List ℕ) → x ≡ Malformed f → Replied (setReply x n out) 14 out

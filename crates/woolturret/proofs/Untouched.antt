@@ -15,9 +15,9 @@ use Rattle.startup.specs.declared.Started.{Started}
 use Rattle.startup.proofs.View.{StartView, bad-limit, not-planned, ran, start-view}
 use Rattle.record.specs.declared.Reading.{Reading}
 use Rattle.record.specs.declared.Reading.the-variants.{Config, Malformed}
-use Rattle.woolturret.specs.Starts.{Reply, startedReply, refusedReply, placedReply, readReply, startReply}
+use Rattle.woolturret.specs.Starts.{StartReply, startedReply, refusedReply, placedReply, readReply, startReply}
 
-abbrev pub Untouched : List ℕ → List ℕ → Reply → Type 0
+abbrev pub Untouched : List ℕ → List ℕ → StartReply → Type 0
 Untouched file clocks y = (y .report .refusal ≡ 0 → ⊥) → (y .report .refusal ≡ 12 → ⊥) → y ≡ refusedReply (y .report .refusal) file clocks
 
 module _ (file : List ℕ) (lim : ℕ) (xs : List ℕ) (cut : ℕ) (clocks : List ℕ) where

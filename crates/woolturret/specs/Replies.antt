@@ -13,8 +13,8 @@ use Rattle.pll.specs.Numbers.{outcomeNumberOf}
 use Rattle.pll.specs.declared.Outcome.{Outcome}
 use Rattle.pll.specs.declared.Outcome.the-variants.{Refused as OutputRefused, At as OutputAt}
 use Rattle.pll.specs.declared.Found.{Found}
-use Rattle.numbers.specs.Answers.{numbersOf as foundNumbers}
-use Rattle.numbers.specs.Numbers.{numbersOf}
+use Rattle.numbers.specs.Answers.{foundNumbers}
+use Rattle.numbers.specs.Numbers.{configNumbers}
 use Rattle.calls.specs.declared.named.Named.{Named}
 use Rattle.calls.specs.declared.named.Named.the-variants.{Unknown, Call}
 
@@ -35,7 +35,7 @@ checkReply (Config c) = checkOf c
 -- an unknown setter or code: 14, and the lent numbers as they came
 abbrev pub callReply : CFGR → Named → List ℕ → Reply
 callReply c Unknown out = record { number = 14; left = out }
-callReply c (Call s) out = record { number = callOf c s .refusal; left = numbersOf (callOf c s .cfgr) }
+callReply c (Call s) out = record { number = callOf c s .refusal; left = configNumbers (callOf c s .cfgr) }
 
 abbrev pub setReply : Reading → Named → List ℕ → Reply
 setReply (Malformed fault) call out = record { number = numberOf fault; left = out }

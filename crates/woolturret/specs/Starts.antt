@@ -19,12 +19,12 @@ use Rattle.numbers.specs.Plans.{clockNumbers}
 use Rattle.woolturret.specs.declared.Report.{Report}
 
 -- the four numbers answered, and the lent file and clocks as they are left
-pub record Reply : Type 0 where
+pub record StartReply : Type 0 where
   pub report : Report
   pub file : List ℕ
   pub clocks : List ℕ
 
-pub record Starts (y : Reply) (r : Report) (file clocks : List ℕ) : Type 0 where
+pub record Starts (y : StartReply) (r : Report) (file clocks : List ℕ) : Type 0 where
   pub answer : r ≡ y .report
   pub file-holds : file ≡ y .file
   pub clocks-hold : clocks ≡ y .clocks
@@ -47,25 +47,25 @@ abbrev pub reportOf : Outcome → ℕ → Report
 reportOf o polls = record { refusal = outcomeNumber o; cut = cutOf o; wait = waitNamed o; polls = polls }
 
 -- a start that ran: its own file is what is left
-abbrev pub startedReply : Started → List ℕ → Reply
+abbrev pub startedReply : Started → List ℕ → StartReply
 startedReply s clocks = record { report = reportOf (s .outcome) (s .polls); file = s .file; clocks = clocksOf (s .outcome) clocks }
 
 -- 13 or 14: nothing lent is written
 abbrev pub refusedReport : ℕ → Report
 refusedReport n = record { refusal = n; cut = 0; wait = 0; polls = 0 }
 
-abbrev pub refusedReply : ℕ → List ℕ → List ℕ → Reply
+abbrev pub refusedReply : ℕ → List ℕ → List ℕ → StartReply
 refusedReply n file clocks = record { report = refusedReport n; file = file; clocks = clocks }
 
 -- 14: a file of another number of places
-unfoldable pub placedReply : CFGR → List ℕ → ℕ → List ℕ → ℕ → List ℕ → Reply
+unfoldable pub placedReply : CFGR → List ℕ → ℕ → List ℕ → ℕ → List ℕ → StartReply
 placedReply c file lim xs cut clocks = cond (eqb (length file) PLACES) (startedReply (startOf c file lim xs cut) clocks) (refusedReply 14 file clocks)
 
 -- 14: a malformed record
-abbrev pub readReply : Reading → List ℕ → ℕ → List ℕ → ℕ → List ℕ → Reply
+abbrev pub readReply : Reading → List ℕ → ℕ → List ℕ → ℕ → List ℕ → StartReply
 readReply (Malformed fault) file lim xs cut clocks = refusedReply (numberOf fault) file clocks
 readReply (Config c) file lim xs cut clocks = placedReply c file lim xs cut clocks
 
 -- record, lent file, poll limit, answers, cut, lent clocks: 13 first, then 14, then what the start itself gives
-unfoldable pub startReply : Reading → List ℕ → ℕ → List ℕ → ℕ → List ℕ → Reply
+unfoldable pub startReply : Reading → List ℕ → ℕ → List ℕ → ℕ → List ℕ → StartReply
 startReply z file lim xs cut clocks = cond (eqb (limitOf lim) 0) (readReply z file lim xs cut clocks) (refusedReply (limitOf lim) file clocks)

@@ -9,12 +9,16 @@ use kinds::CFGR;
 use kinds::Divider;
 use kinds::Factor;
 use kinds::Hertz;
+use numbers::CLOCKS;
+use numbers::CONFIG;
+use numbers::SEARCH;
 use numbers::answers;
 use numbers::plans;
 use plan::plan;
 use pll::Outcome;
 use record::Reading;
 use startup::limit_refusal;
+use text::LINE;
 use text::Placed;
 ghost use mathlib.Core.Path.{_≡_};
 ghost use Rattle.record.specs.Reading.{readOf};
@@ -41,7 +45,7 @@ pub extern "C" fn woolturret_check(bytes: &[u8]) -> u32
 }
 
 // A call on a configuration: its number, and the configuration handed back in out; 14 and out as it was for an unknown call.
-fn reply(cfgr: CFGR, call: Named, out: &mut [u32; 30]) -> u32
+fn reply(cfgr: CFGR, call: Named, out: &mut [u32; CONFIG]) -> u32
     ensures { λ r. ⌜ Replied (callReply cfgr call (now (out .entry))) r (now (out .exit)) ⌝ }
 {
     match call {
@@ -49,7 +53,7 @@ fn reply(cfgr: CFGR, call: Named, out: &mut [u32; 30]) -> u32
         Named::Call(setter) => {
             let set = calls::call(cfgr, setter);
             let handed = set.cfgr;
-            *out = numbers::numbers_of(handed);
+            *out = numbers::config_numbers(handed);
             set.refusal as u32
         }
     }
@@ -63,7 +67,7 @@ pub extern "C" fn woolturret_set(
     setter: u32,
     a: u32,
     b: u32,
-    out: &mut [u32; 30],
+    out: &mut [u32; CONFIG],
 ) -> u32
     ensures { λ r. ⌜ Replied (setReply (readOf (now (bytes .entry))) (namedOf setter a b) (now (out .entry))) r (now (out .exit)) ⌝ }
 {
@@ -83,7 +87,7 @@ pub extern "C" fn woolturret_search(
     q: bool,
     qmin: u32,
     qmax: u32,
-    out: &mut [u32; 5],
+    out: &mut [u32; SEARCH],
 ) -> u32
     ensures { λ r. ⌜ Replied (searchReply (searchOf input (windowOf p pmin pmax) (windowOf q qmin qmax))) r (now (out .exit)) ⌝ }
 {
@@ -92,7 +96,7 @@ pub extern "C" fn woolturret_search(
         answers::window(p, pmin, pmax),
         answers::window(q, qmin, qmax),
     );
-    *out = answers::numbers_of(found);
+    *out = answers::found_numbers(found);
     answers::number_of(found)
 }
 
@@ -115,7 +119,7 @@ pub extern "C" fn woolturret_output(input: u32, m: u32, n: u32, d: u32, out: &mu
 #[no_mangle]
 pub extern "C" fn woolturret_configure(
     bytes: &[u8],
-    config: &mut [u32; 30],
+    config: &mut [u32; CONFIG],
     passes: &mut u32,
 ) -> u32
     ensures { λ r. ⌜ Configures (configureReply (readOf (now (bytes .entry))) (now (config .entry))) r (now (config .exit)) (now (passes .exit)) ⌝ }
@@ -132,7 +136,7 @@ pub extern "C" fn woolturret_configure(
 // calculate_clocks of the configuration that a record holds, its settings as they stand: its number, and the clocks and field codes
 // in clocks; refused, clocks is as it was.
 #[no_mangle]
-pub extern "C" fn woolturret_derive(bytes: &[u8], clocks: &mut [u32; 16]) -> u32
+pub extern "C" fn woolturret_derive(bytes: &[u8], clocks: &mut [u32; CLOCKS]) -> u32
     ensures { λ r. ⌜ Derives (deriveReply (readOf (now (bytes .entry))) (now (clocks .entry))) r (now (clocks .exit)) ⌝ }
 {
     match record::read_record(bytes) {
@@ -146,8 +150,8 @@ pub extern "C" fn woolturret_derive(bytes: &[u8], clocks: &mut [u32; 16]) -> u32
 #[no_mangle]
 pub extern "C" fn woolturret_plan(
     bytes: &[u8],
-    config: &mut [u32; 30],
-    clocks: &mut [u32; 16],
+    config: &mut [u32; CONFIG],
+    clocks: &mut [u32; CLOCKS],
     passes: &mut u32,
 ) -> u32
     ensures { λ r. ⌜ Plans (planReply (readOf (now (bytes .entry))) (now (config .entry)) (now (clocks .entry))) r (now (config .exit)) (now (clocks .exit)) (now (passes .exit)) ⌝ }
@@ -163,7 +167,7 @@ pub extern "C" fn woolturret_plan(
 
 // The program's line of any bytes, at the start of out; its length is answered, and the rest of out is as it was.
 #[no_mangle]
-pub extern "C" fn woolturret_line(bytes: &[u8], out: &mut [u8; 157]) -> u32
+pub extern "C" fn woolturret_line(bytes: &[u8], out: &mut [u8; LINE]) -> u32
     ensures { λ r. ⌜ Lines (answerLine (now (bytes .entry))) (now (out .entry)) r (now (out .exit)) ⌝ }
 {
     let line: &mut [u8] = out;
@@ -191,7 +195,7 @@ pub extern "C" fn woolturret_start(
     answers: &[u8],
     limit: u32,
     cut: u8,
-    clocks: &mut [u32; 16],
+    clocks: &mut [u32; CLOCKS],
 ) -> Report
     ensures { λ r. ⌜ Starts (startReply (readOf (now (bytes .entry))) (now (file .entry)) limit (now (answers .entry)) cut (now (clocks .entry))) r (now (file .exit)) (now (clocks .exit)) ⌝ }
 {

@@ -1,6 +1,7 @@
 // A start over lent numbers: the file taken and handed back, and what the start came to as numbers.
 use super::Report;
 use kinds::CFGR;
+use numbers::CLOCKS;
 use numbers::plans::clock_numbers;
 use startup::Outcome;
 use startup::PLACES;
@@ -61,7 +62,7 @@ fn report(outcome: Outcome, polls: u32) -> Report
 }
 
 // Nothing is written where the start is refused.
-fn give_clocks(outcome: Outcome, clocks: &mut [u32; 16])
+fn give_clocks(outcome: Outcome, clocks: &mut [u32; CLOCKS])
     ensures { λ _. ⌜ now (clocks .exit) ≡ spec.clocksOf outcome (now (clocks .entry)) ⌝ }
 {
     match outcome {
@@ -99,7 +100,7 @@ fn file_of(lent: &[u32]) -> [u32; PLACES]
 }
 
 // The file is copied back in any case: a start that is refused, but for 12, has it as it came.
-fn hand_back(started: Started, file: &mut [u32], clocks: &mut [u32; 16]) -> Report
+fn hand_back(started: Started, file: &mut [u32], clocks: &mut [u32; CLOCKS]) -> Report
     requires { ⌜ length (now file) ≡ places.PLACES ⌝ }
     ensures { λ r. ⌜ spec.Starts (spec.startedReply started (now (clocks .entry))) r (now (file .exit)) (now (clocks .exit)) ⌝ }
 {
@@ -117,7 +118,7 @@ pub(crate) fn placed(
     answers: &[u8],
     limit: u32,
     cut: u8,
-    clocks: &mut [u32; 16],
+    clocks: &mut [u32; CLOCKS],
 ) -> Report
     ensures { λ r. ⌜ spec.Starts (spec.placedReply cfgr (now (file .entry)) limit (now (answers .entry)) cut (now (clocks .entry))) r (now (file .exit)) (now (clocks .exit)) ⌝ }
 {

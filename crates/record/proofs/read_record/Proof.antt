@@ -1,5 +1,6 @@
 -- `read_record` reads any bytes: by their length, then by what is found.
 use borrow.Author.Tests.{eq-eqb, ne-eqb}
+use Rattle.record.specs.Places.{RECORD}
 use Rattle.record.specs.Reading.{readOf}
 use borrow.Author.Needs.{needs}
 use Rattle.record.proofs.read_record.Statement.{statement}
@@ -13,11 +14,11 @@ judge-requires c κs = search needs
 
 returns : tie.Need-returns
 unfolding readOf
-returns c = rw (eq-eqb _ 64 (c .before .before .if1 .taken), c .judge .ensures, c .before .find-fault .ensures)
+returns c = rw (eq-eqb _ RECORD (c .before .before .if1 .taken), c .judge .ensures, c .before .find-fault .ensures)
 
 returns-2 : tie.Need-returns-2
 unfolding readOf
-returns-2 c = rw (ne-eqb _ 64 (c .if1 .left))
+returns-2 c = rw (ne-eqb _ RECORD (c .if1 .left))
 
 pub read-record-spec : {M : Type 1} → statement M
 read-record-spec = tie.close (tie.spec find-fault-requires judge-requires returns returns-2)

@@ -3,6 +3,7 @@ use native.Mathlib.Omega.{arith}
 use mathlib.Core.Path.{_≡_}
 use lib.ListN.{length}
 use borrow.Author.Needs.{needs}
+use Rattle.text.specs.Line.{QUANTITIES}
 use Rattle.text.proofs.ok_line.Statement.{statement}
 use Rattle.text.proofs.ok_line.Tie as tie
 
@@ -17,7 +18,7 @@ same-length c = search needs
 
 returns : tie.Need-returns
 returns c =
-    let e : length (c .before .before .before .before .before .before .before .args .ns .now) ≡ 14 = omega (arith, c .before .before .before .before .before .before .before .good) in
+    let e : length (c .before .before .before .before .before .before .before .args .ns .now) ≡ QUANTITIES = omega (arith, c .before .before .before .before .before .before .before .good) in
     rw e at (c .before .before .put-line .ensures)
 
 pub ok-line-spec : {M : Type 1} → statement M

@@ -13,8 +13,8 @@ enum-known-call c = search needs
 call-requires : tie.Need-call-requires
 call-requires c κs = search needs
 
-numbers-of-requires : tie.Need-numbers-of-requires
-numbers-of-requires c κs = search needs
+config-numbers-requires : tie.Need-config-numbers-requires
+config-numbers-requires c κs = search needs
 
 cast-result : tie.Need-cast-result
 cast-result c = search needs
@@ -23,7 +23,7 @@ returns : tie.Need-returns
 returns c = unknown _ _ (c .enum-told .given .1)
 
 returns-2 : tie.Need-returns-2
-returns-2 c = replied _ _ (c .before .before .before .before .before .call .given .1) (c .before .before .before .call2 .ensures) (c .before .numbers-of .ensures)
+returns-2 c = replied _ _ (c .before .before .before .before .before .call .given .1) (c .before .before .before .call2 .ensures) (c .before .config-numbers .ensures)
 
 pub reply-spec : {M : Type 1} → statement M
 reply-spec =
@@ -32,7 +32,7 @@ reply-spec =
     enum-told
     enum-known-call
     call-requires
-    numbers-of-requires
+    config-numbers-requires
     cast-result
     returns
     returns-2)

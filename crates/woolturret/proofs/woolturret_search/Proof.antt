@@ -13,14 +13,14 @@ window-requires-2 c κs = search needs
 calculate-mnpq-requires : tie.Need-calculate-mnpq-requires
 calculate-mnpq-requires c κs = search needs
 
-numbers-of-requires : tie.Need-numbers-of-requires
-numbers-of-requires c κs = search needs
+found-numbers-requires : tie.Need-found-numbers-requires
+found-numbers-requires c κs = search needs
 
 number-of-requires : tie.Need-number-of-requires
 number-of-requires c κs = search needs
 
 returns : tie.Need-returns
-returns c = searched _ (c .before .before .before .before .window .ensures) (c .before .before .before .window2 .ensures) (c .before .before .calculate-mnpq .ensures) (c .number-of .ensures) (c .before .numbers-of .ensures)
+returns c = searched _ (c .before .before .before .before .window .ensures) (c .before .before .before .window2 .ensures) (c .before .before .calculate-mnpq .ensures) (c .number-of .ensures) (c .before .found-numbers .ensures)
 
 pub woolturret-search-spec : {M : Type 1} → statement M
 woolturret-search-spec =
@@ -29,6 +29,6 @@ woolturret-search-spec =
     window-requires
     window-requires-2
     calculate-mnpq-requires
-    numbers-of-requires
+    found-numbers-requires
     number-of-requires
     returns)

@@ -14,23 +14,23 @@ lse-requires c κs = search needs
 choice-requires : tie.Need-choice-requires
 choice-requires c κs = search needs
 
-p-requires : tie.Need-p-requires
-p-requires c κs = search needs
+pllp-requires : tie.Need-pllp-requires
+pllp-requires c κs = search needs
 
-p-requires-2 : tie.Need-p-requires-2
-p-requires-2 c κs = search needs
+pllp-requires-2 : tie.Need-pllp-requires-2
+pllp-requires-2 c κs = search needs
 
 mco1-requires : tie.Need-mco1-requires
 mco1-requires c κs = search needs
 
-pre-requires : tie.Need-pre-requires
-pre-requires c κs = search needs
+mcopre-requires : tie.Need-mcopre-requires
+mcopre-requires c κs = search needs
 
 mco2-requires : tie.Need-mco2-requires
 mco2-requires c κs = search needs
 
-pre-requires-2 : tie.Need-pre-requires-2
-pre-requires-2 c κs = search needs
+mcopre-requires-2 : tie.Need-mcopre-requires-2
+mcopre-requires-2 c κs = search needs
 
 returns : tie.Need-returns
 returns c = picked _ (c .before .match .keys1) (c .hse .ensures)
@@ -66,7 +66,7 @@ returns-11 : tie.Need-returns-11
 returns-11 c = picked _ (c .match .keys11) refl
 
 returns-12 : tie.Need-returns-12
-returns-12 c = picked _ (c .before .match .keys12) (c .p .ensures)
+returns-12 c = picked _ (c .before .match .keys12) (c .pllp .ensures)
 
 returns-13 : tie.Need-returns-13
 returns-13 c = picked _ (c .match .keys13) refl
@@ -78,7 +78,7 @@ returns-15 : tie.Need-returns-15
 returns-15 c = picked _ (c .match .keys15) refl
 
 returns-16 : tie.Need-returns-16
-returns-16 c = picked _ (c .before .match .keys16) (c .p2 .ensures)
+returns-16 c = picked _ (c .before .match .keys16) (c .pllp2 .ensures)
 
 returns-17 : tie.Need-returns-17
 returns-17 c = picked _ (c .match .keys17) refl
@@ -99,13 +99,13 @@ returns-22 : tie.Need-returns-22
 returns-22 c = picked _ (c .before .match .keys22) (c .mco1 .ensures)
 
 returns-23 : tie.Need-returns-23
-returns-23 c = picked _ (c .before .match .keys23) (c .pre2 .ensures)
+returns-23 c = picked _ (c .before .match .keys23) (c .mcopre .ensures)
 
 returns-24 : tie.Need-returns-24
 returns-24 c = picked _ (c .before .match .keys24) (c .mco2 .ensures)
 
 returns-25 : tie.Need-returns-25
-returns-25 c = picked _ (c .before .match .keys25) (c .pre3 .ensures)
+returns-25 c = picked _ (c .before .match .keys25) (c .mcopre2 .ensures)
 
 returns-26 : tie.Need-returns-26
 returns-26 c = picked _ (c .match .keys26) refl
@@ -120,12 +120,12 @@ call-of-spec =
     hse-requires
     lse-requires
     choice-requires
-    p-requires
-    p-requires-2
+    pllp-requires
+    pllp-requires-2
     mco1-requires
-    pre-requires
+    mcopre-requires
     mco2-requires
-    pre-requires-2
+    mcopre-requires-2
     returns
     returns-2
     returns-3

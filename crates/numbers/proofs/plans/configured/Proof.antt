@@ -13,14 +13,14 @@ cast-result c = search needs
 enum-known-answer-2 : tie.Need-enum-known-answer-2
 enum-known-answer-2 c = search needs
 
-numbers-of-requires : tie.Need-numbers-of-requires
-numbers-of-requires c κs = search needs
+config-numbers-requires : tie.Need-config-numbers-requires
+config-numbers-requires c κs = search needs
 
 returns : tie.Need-returns
 returns c = search needs
 
 returns-2 : tie.Need-returns-2
-returns-2 c = configured-ready _ (c .before .before .answer2 .given .1) (c .numbers-of .ensures)
+returns-2 c = configured-ready _ (c .before .before .answer2 .given .1) (c .config-numbers .ensures)
 
 pub configured-spec : {M : Type 1} → statement M
 configured-spec =
@@ -29,6 +29,6 @@ configured-spec =
     enum-known-answer
     cast-result
     enum-known-answer-2
-    numbers-of-requires
+    config-numbers-requires
     returns
     returns-2)

@@ -13,8 +13,8 @@ cast-result c = search needs
 enum-known-answer-2 : tie.Need-enum-known-answer-2
 enum-known-answer-2 c = search needs
 
-numbers-of-requires : tie.Need-numbers-of-requires
-numbers-of-requires c κs = search needs
+config-numbers-requires : tie.Need-config-numbers-requires
+config-numbers-requires c κs = search needs
 
 clock-numbers-requires : tie.Need-clock-numbers-requires
 clock-numbers-requires c κs = search needs
@@ -23,7 +23,7 @@ returns : tie.Need-returns
 returns c = search needs
 
 returns-2 : tie.Need-returns-2
-returns-2 c = planned-ready _ _ (c .before .before .before .answer2 .given .1) (c .before .numbers-of .ensures) (c .clock-numbers .ensures)
+returns-2 c = planned-ready _ _ (c .before .before .before .answer2 .given .1) (c .before .config-numbers .ensures) (c .clock-numbers .ensures)
 
 pub planned-spec : {M : Type 1} → statement M
 planned-spec =
@@ -32,7 +32,7 @@ planned-spec =
     enum-known-answer
     cast-result
     enum-known-answer-2
-    numbers-of-requires
+    config-numbers-requires
     clock-numbers-requires
     returns
     returns-2)

@@ -3,6 +3,8 @@ use Prim.Native.Nat.{_+_, _*_, _-_, _≤_}
 use native.Mathlib.Omega.{arith}
 use mathlib.Core.Path.{_≡_}
 use borrow.Author.Needs.{needs}
+use Rattle.record.specs.Places.{RECORD}
+use Rattle.text.specs.Line.{LINE}
 use Rattle.text.proofs.Writing.{same}
 use Rattle.planner.specs.Output.{linesOf, Filled}
 use Rattle.planner.proofs.Pieces.{begun, more}
@@ -10,7 +12,7 @@ use Rattle.planner.proofs.lines.put_lines.Statement.{statement}
 use Rattle.planner.proofs.lines.put_lines.Tie as tie
 
 abbrev Inv-loop : tie.InvT-loop
-Inv-loop input k out₀ i₀ at₀ out i at = Filled out₀ 0 (linesOf input i) (157 * i) out at × (i ≤ k)
+Inv-loop input k out₀ i₀ at₀ out i at = Filled out₀ 0 (linesOf input i) (LINE * i) out at × (i ≤ k)
 
 abbrev μ-loop : tie.MeasureT-loop
 μ-loop input k out₀ i₀ at₀ out i at = k - i
@@ -48,7 +50,7 @@ loop-again : tie.Need-loop-again Inv-loop μ-loop
 loop-again c =
     let l = c .before .before .before .before .before .before in
     let i = l .loop .i in
-    (more (l .before .before .before .args .input .now) i (64 * i + 64 - 64 * i) (omega arith) (l .loop .inv .0) (c .before .before .put-record .ensures), omega arith)
+    (more (l .before .before .before .args .input .now) i (RECORD * i + RECORD - RECORD * i) (omega arith) (l .loop .inv .0) (c .before .before .put-record .ensures), omega arith)
 
 same-length : tie.Need-same-length Inv-loop μ-loop
 same-length c = same (c .before .loop .inv .0 .wrote)

@@ -2,6 +2,7 @@
 use native.Mathlib.Omega.{arith}
 use Prim.Native.Nat.{_*_, _-_, _/_}
 use lib.ListN.{length}
+use Rattle.record.specs.Places.{RECORD}
 use Rattle.text.proofs.Writing.{join, renamed}
 use Rattle.planner.proofs.Pieces.{without-tail, with-tail, begins}
 use borrow.Author.Needs.{needs}
@@ -44,7 +45,7 @@ returns-2 c =
     let p = q .before .before .before .before .before .before in
     let b = p .before .before .before .before .args .input .now in
     begins
-    (renamed (with-tail b (64 * (length b / 64)) (length b - 64 * (length b / 64)) (omega arith) (λ z. q .before .before .before .if1 .left (omega arith))) (join (p .put-lines .ensures .wrote) (q .put-record .ensures .wrote)))
+    (renamed (with-tail b (RECORD * (length b / RECORD)) (length b - RECORD * (length b / RECORD)) (omega arith) (λ z. q .before .before .before .if1 .left (omega arith))) (join (p .put-lines .ensures .wrote) (q .put-record .ensures .wrote)))
     (omega (arith, p .put-lines .ensures .near, q .put-record .ensures .near))
 
 pub put-text-spec : {M : Type 1} → statement M

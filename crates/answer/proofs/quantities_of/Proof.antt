@@ -1,9 +1,9 @@
--- `numbers_of` meets its contract: number by number.
-use Rattle.answer.specs.Answer.{numbersOf}
+-- `quantities_of` meets its contract: number by number.
+use Rattle.answer.specs.Answer.{quantitiesOf}
 use Rattle.answer.proofs.Lines.{bit}
 use borrow.Author.Needs.{needs}
-use Rattle.answer.proofs.numbers_of.Statement.{statement}
-use Rattle.answer.proofs.numbers_of.Tie as tie
+use Rattle.answer.proofs.quantities_of.Statement.{statement}
+use Rattle.answer.proofs.quantities_of.Tie as tie
 
 p-divider-requires : tie.Need-p-divider-requires
 p-divider-requires c κs = search needs
@@ -21,11 +21,11 @@ cast-t9 : tie.Need-cast-t9
 cast-t9 c = search needs
 
 returns : tie.Need-returns
-unfolding numbersOf
+unfolding quantitiesOf
 returns c =
     let d = c .before .before .before .before in
     let a = d .before .args in
     rw (d .p-divider .ensures, bit (a .config .overdrive), bit (a .clocks .«pll48clk_valid»))
 
-pub numbers-of-spec : {M : Type 1} → statement M
-numbers-of-spec = tie.close (tie.spec p-divider-requires cast-t6 cast-t7 cast-t8 cast-t9 returns)
+pub quantities-of-spec : {M : Type 1} → statement M
+quantities-of-spec = tie.close (tie.spec p-divider-requires cast-t6 cast-t7 cast-t8 cast-t9 returns)

@@ -1,7 +1,7 @@
--- `answers::numbers_of` meets its contract: case by case, number by number.
+-- `answers::found_numbers` meets its contract: case by case, number by number.
 use borrow.Author.Needs.{needs}
-use Rattle.numbers.proofs.answers.numbers_of.Statement.{statement}
-use Rattle.numbers.proofs.answers.numbers_of.Tie as tie
+use Rattle.numbers.proofs.answers.found_numbers.Statement.{statement}
+use Rattle.numbers.proofs.answers.found_numbers.Tie as tie
 
 enum-known-found : tie.Need-enum-known-found
 enum-known-found c = search needs
@@ -27,8 +27,8 @@ returns-2 c = search needs
 returns-3 : tie.Need-returns-3
 returns-3 c = rw (c .before .found2 .given .1)
 
-pub numbers-of-spec : {M : Type 1} → statement M
-numbers-of-spec =
+pub found-numbers-spec : {M : Type 1} → statement M
+found-numbers-spec =
     tie.close
     (tie.spec
     enum-known-found

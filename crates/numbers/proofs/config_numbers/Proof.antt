@@ -1,10 +1,10 @@
--- `numbers_of` meets its contract: number by number.
+-- `config_numbers` meets its contract: number by number.
 use mathlib.Core.Path.{refl}
 use Rattle.numbers.proofs.Lists.{both}
-use Rattle.numbers.specs.Numbers.{numbersOf}
+use Rattle.numbers.specs.Numbers.{configNumbers}
 use borrow.Author.Needs.{needs}
-use Rattle.numbers.proofs.numbers_of.Statement.{statement}
-use Rattle.numbers.proofs.numbers_of.Tie as tie
+use Rattle.numbers.proofs.config_numbers.Statement.{statement}
+use Rattle.numbers.proofs.config_numbers.Tie as tie
 
 hse-kind-requires : tie.Need-hse-kind-requires
 hse-kind-requires c κs = search needs
@@ -73,7 +73,7 @@ mcopre-code-requires-2 : tie.Need-mcopre-code-requires-2
 mcopre-code-requires-2 c κs = search needs
 
 returns : tie.Need-returns
-unfolding numbersOf
+unfolding configNumbers
 returns c =
     (both (c .before .before .before .before .before .before .before .before .before .before .before .before .before .before .before .before .before .before .before .before .before .hse-kind .ensures)
     (both (c .before .before .before .before .before .before .before .before .before .before .before .before .before .before .before .before .before .before .before .before .hse-hertz .ensures)
@@ -107,8 +107,8 @@ returns c =
     (both (c .mcopre-code2 .ensures)
     refl))))))))))))))))))))))))))))))
 
-pub numbers-of-spec : {M : Type 1} → statement M
-numbers-of-spec =
+pub config-numbers-spec : {M : Type 1} → statement M
+config-numbers-spec =
     tie.close
     (tie.spec
     hse-kind-requires

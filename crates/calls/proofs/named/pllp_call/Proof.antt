@@ -1,0 +1,12 @@
+-- `named::pllp_call` meets its contract: each branch by its test.
+use Rattle.calls.proofs.named.pllp_call.Statement.{statement}
+use Rattle.calls.proofs.named.pllp_call.Tie as tie
+
+returns : tie.Need-returns
+returns c = cc
+
+returns-2 : tie.Need-returns-2
+returns-2 c = cc
+
+pub pllp-call-spec : {M : Type 1} → statement M
+pllp-call-spec = tie.close (tie.spec returns returns-2)
