@@ -11,7 +11,7 @@ use borrow.Author.Tests.{eqb-true, eqb-false}
 use Rattle.kinds.specs.Table.{Between, Outside}
 use Rattle.kinds.specs.declared.CFGR.{CFGR}
 use Rattle.kinds.proofs.Check.{Told, inside, broken, outside-told}
-use Rattle.startup.specs.Places.{PLACES}
+use Rattle.order.specs.Places.{PLACES}
 use Rattle.startup.specs.Start.{limitOf, startOf}
 use Rattle.startup.specs.Start.{numberOf as outcomeNumber}
 use Rattle.startup.proofs.View.{apart}
