@@ -6,7 +6,7 @@ use mathlib.Core.Path.{_≡_, refl, sym, _∙_, ap, subst}
 use mathlib.Core.Bool.{true, false}
 use mathlib.Core.List.{List, [], _∷_, _++_}
 use lib.ListN.{length, getD, take, replicate}
-use lib.Seq.{take-length, take-append-seam}
+use lib.Seq.{take-length}
 use Rattle.kinds.specs.Table.{Between}
 use Rattle.kinds.specs.declared.CFGR.{CFGR}
 use Rattle.clocks.specs.Derive.{clocksOf, configOf}
@@ -16,45 +16,30 @@ use Rattle.plan.specs.Plan.{planOf}
 use Rattle.plan.specs.declared.Planned.the-variants.{Ready}
 use Rattle.plan.proofs.View.{planned-derived}
 use Rattle.plan.proofs.Theorems.{plan-is-configured, plan-is-derived}
-use Rattle.startup.specs.Places.{PLACES}
-use Rattle.startup.specs.Files.{applies}
-use Rattle.startup.specs.Order.{Op, wait, one, pllStored, opsOf, storesOf, waits, waitsBy}
+use Rattle.order.specs.Places.{PLACES}
+use Rattle.order.specs.Files.{applies}
+use Rattle.order.specs.Order.{Op, pllStored, opsOf, storesOf, waits, waitsBy}
 use Rattle.startup.specs.Start.{Ending, at-end, at-cut, at-wait, walk, outcomeOf, startedOf, startOf}
-use Rattle.startup.specs.Cuts.{Leaves, whole, first, before, Comes, away, over, Try, tried}
-use Rattle.startup.specs.Fields.{fieldsOf, names, Holds}
-use Rattle.startup.specs.Safe.{Settled, Safe, Switched}
-use Rattle.startup.specs.Back.{Reads, Powered}
+use Rattle.startup.specs.Cuts.{Leaves, whole, first, before, Comes, away, over, Try, tried, Switched}
+use Rattle.order.specs.Fields.{fieldsOf, names, Holds}
+use Rattle.order.specs.Safe.{Settled, Safe}
+use Rattle.order.specs.Back.{Reads, Powered}
 use Rattle.startup.specs.declared.Outcome.the-variants.{Done, Cut, Unanswered}
 use Rattle.startup.specs.declared.Started.{Started}
-use Rattle.startup.proofs.Restart.{restart}
-use Rattle.startup.proofs.Looks.{stores-both}
-use Rattle.startup.proofs.Few.{stores-few, waits-few, stores-least, first-two}
-use Rattle.startup.proofs.Touched.{list-holds, list-keeps}
-use Rattle.startup.proofs.Safe.{safe-list, settled}
-use Rattle.startup.proofs.Back.{reads-back, powered}
+use Rattle.order.proofs.Restart.{restart}
+use Rattle.order.proofs.Looks.{first-stores}
+use Rattle.order.proofs.Few.{stores-few, waits-few, stores-least, two-before}
+use Rattle.order.proofs.Touched.{list-holds, list-keeps}
+use Rattle.order.proofs.Safe.{safe-list, settled}
+use Rattle.order.proofs.Back.{reads-back, powered}
 use Rattle.startup.proofs.Leaving.{leaves, polls-few, ones-polls, ones-end, ones-cut, waits-whole}
 use Rattle.startup.proofs.View.{apart, StartView, bad-limit, not-planned, ran, start-view}
-
--- of a list, the stores before a wait are its first ones
-first-stores : (os a b : List Op) (k : ℕ) → os ≡ a ++ wait k ∷ b → take (length (storesOf a)) (storesOf os) ≡ storesOf a
-first-stores os a b k e = ap (λ (l : List Op). take (length (storesOf a)) (storesOf l)) e ∙ ap (take (length (storesOf a))) (stores-both a (wait k ∷ b)) ∙ take-append-seam (storesOf a) (storesOf b)
 
 -- whatever a walk leaves is what some first stores of its list make of the file, no more than the cut allows
 first-of : {os : List Op} {cut : ℕ} {f g : List ℕ} {e : Ending} → Leaves os cut f e g → (n : ℕ) × (n ≤ cut) × (g ≡ applies f (take n (storesOf os)))
 first-of {os} {f = f} (whole h) = (length (storesOf os), omega arith, ap (applies f) (sym (take-length (storesOf os))))
 first-of {cut = cut} (first h) = (cut, omega arith, refl)
 first-of {os} {f = f} (before {k = k} a b e h) = (length (storesOf a), omega arith, ap (applies f) (sym (first-stores os a b k e)))
-
--- of a list that begins with HSION, HSI's wait and SW = HSI, at least two stores come before any other wait
-two-before : (rest a b : List Op) (v w k : ℕ) → one v 1 ∷ wait 1 ∷ one w 0 ∷ rest ≡ a ++ wait k ∷ b → (k ≡ 1 → ⊥) → 2 ≤ length (storesOf a)
-two-before rest [] b v w k e n = absurd (let q : _≡_ {A = ℕ} 0 1 = cc in omega arith)
-two-before rest (o ∷ []) b v w k e n = absurd (n (let q : k ≡ 1 = cc in q))
-two-before rest (o ∷ q ∷ []) b v w k e n = absurd (let z : _≡_ {A = ℕ} 0 1 = cc in omega arith)
-two-before rest (o ∷ q ∷ t ∷ a) b v w k e n =
-    let i : o ≡ one v 1 = cc in
-    let j : q ≡ wait 1 = cc in
-    let h : t ≡ one w 0 = cc in
-    rw (i, j, h) (omega arith)
 
 -- ---- a start by how it ended
 module _ {x : Clocks} {y : InternalRCCConfig} {os : List Op} {f : List ℕ} {lim cut : ℕ} where
@@ -83,11 +68,7 @@ come-switched d y x f lim cut r (over {e = at-end} b (whole h) i) s =
     (length (storesOf (opsOf d y)), let l = stores-least d y in omega arith, ap (applies f) (sym (take-length (storesOf (opsOf d y)))))
 come-switched d y x f lim cut r (over {e = at-cut} b (first h) i) s = (cut, s .stores, refl)
 come-switched d y x f lim cut r (over {e = at-wait k} b (before a g u h) i) s =
-    let t = first-two d y in (
-      length (storesOf a),
-      two-before (t .0) a g 0 6 k (sym (t .1) ∙ u) (λ (e : k ≡ 1). s .answered (ap Unanswered e)),
-      ap (applies f) (sym (first-stores (opsOf d y) a g k u)),
-    )
+    (length (storesOf a), two-before d y a g k u (λ (e : k ≡ 1). s .answered (ap Unanswered e)), ap (applies f) (sym (first-stores (opsOf d y) a g k u)))
 
 module _ (c d : CFGR) (k : ℕ) (x : Clocks) (y : InternalRCCConfig) (p : planOf c ≡ Ready d k x y) where
   -- the plan's clocks and field codes are those derived from the configuration as planned

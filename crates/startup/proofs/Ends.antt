@@ -12,8 +12,8 @@ use Rattle.clocks.specs.declared.Clocks.{Clocks}
 use Rattle.clocks.specs.declared.InternalRCCConfig.{InternalRCCConfig}
 use Rattle.plan.specs.Plan.{planOf}
 use Rattle.plan.specs.declared.Planned.the-variants.{Ready}
-use Rattle.startup.specs.Files.{writes}
-use Rattle.startup.specs.Order.{Op, put, wait, storesOf, opsOf}
+use Rattle.order.specs.Files.{writes}
+use Rattle.order.specs.Order.{Op, put, wait, storesOf, opsOf}
 use Rattle.startup.specs.Start.{polledOf, Ending, at-end, at-cut, at-wait, after, walk, outcomeOf, startOf}
 use Rattle.startup.specs.Cuts.{Answers, none, store, ready, Reached}
 use Rattle.startup.specs.declared.Outcome.the-variants.{Done, Cut, Refused}

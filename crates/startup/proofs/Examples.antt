@@ -27,9 +27,9 @@ use Rattle.clocks.specs.Derive.{sysclkOf, wantedOf, hpreOf, ahbFor, capOf, timc
 use Rattle.clocks.specs.declared.Clocks.{Clocks}
 use Rattle.clocks.specs.declared.InternalRCCConfig.{InternalRCCConfig}
 use Rattle.plan.specs.Plan.{roughOf, saiLate, i2sLate, limitsOf, limitedOf, clockedOf, plannedOf, planOf}
-use Rattle.startup.specs.Places.{PLACES}
+use Rattle.order.specs.Places.{PLACES}
 use Rattle.startup.specs.Start.{plannedStart, startOf}
-use Rattle.startup.specs.Safe.{Safe, hsi, own}
+use Rattle.order.specs.Safe.{Safe, hsi, own}
 use Rattle.startup.specs.declared.Outcome.the-variants.{Done, Cut, Unanswered}
 
 -- HSE by bypass at 2 MHz, 216 MHz and PLLQ asked for, its PLL as a plan leaves it

@@ -6,8 +6,8 @@ use mathlib.Core.Path.{_≡_, refl, ap}
 use mathlib.Core.List.{List, [], _∷_, _++_}
 use mathlib.Core.Bool.{Bool, true, false, cond}
 use lib.ListN.{length, replicate}
-use Rattle.startup.specs.Files.{writes}
-use Rattle.startup.specs.Order.{Op, put, wait, storesOf, waits, waitsBy}
+use Rattle.order.specs.Files.{writes}
+use Rattle.order.specs.Order.{Op, put, wait, storesOf, waits, waitsBy}
 use Rattle.startup.specs.Start.{polledOf, Ending, at-end, at-cut, at-wait, after, walk}
 use Rattle.startup.proofs.Polls.{polled-few}
 use Rattle.startup.specs.Cuts.{Leaves, whole, first, before}

@@ -1,19 +1,10 @@
 -- What is proved of this crate.
 pub mod Polls
 pub mod Runs
-pub mod Restart
-pub mod Looks
 pub mod Walking
-pub mod ByKind
 pub mod Starting
 pub mod Leaving
 pub mod Silent
-pub mod Homes
-pub mod Touched
-pub mod Few
-pub mod Safe
-pub mod Calm
-pub mod Back
 pub mod View
 pub mod Demands
 pub mod Refusals

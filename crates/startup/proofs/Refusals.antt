@@ -15,12 +15,12 @@ use Rattle.plan.specs.Refusals.{PlanRefused, planNumbers}
 use Rattle.plan.specs.declared.Planned.{Planned}
 use Rattle.plan.specs.declared.Planned.the-variants.{Refused as NotPlanned, Ready}
 use Rattle.plan.proofs.Theorems.{plan-refuses-exactly, plan-gives-only}
-use Rattle.startup.specs.Order.{opsOf}
+use Rattle.order.specs.Order.{opsOf}
 use Rattle.startup.specs.Start.{Ending, at-end, at-cut, at-wait, walk, outcomeOf, startOf, startNumbers, numberOf}
 use Rattle.startup.specs.Cuts.{Leaves, before, Silent}
 use Rattle.startup.specs.declared.Outcome.the-variants.{Unanswered}
 use Rattle.startup.specs.declared.Started.{Started}
-use Rattle.startup.proofs.Starting.{wait-named}
+use Rattle.order.proofs.Numbered.{wait-named}
 use Rattle.startup.proofs.Leaving.{leaves}
 use Rattle.startup.proofs.Silent.{silent-exactly}
 use Rattle.startup.proofs.View.{apart, StartView, bad-limit, not-planned, ran, start-view}

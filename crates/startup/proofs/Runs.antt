@@ -5,8 +5,8 @@ use mathlib.Core.Path.{_≡_, refl, _∙_, ap, sym}
 use mathlib.Core.Bool.{true, false, cond, false≢true}
 use lib.Dec.{eqb}
 use mathlib.Core.List.{List, [], _∷_, _++_}
-use Rattle.startup.specs.Files.{Wrote}
-use Rattle.startup.specs.Order.{Op, put, wait}
+use Rattle.order.specs.Files.{Wrote}
+use Rattle.order.specs.Order.{Op, put, wait}
 use Rattle.startup.specs.Machine.{going, runs, storeOf, putOf, waitOf, beginOf, Room, Stored, Put, Waited, Ran, Puts}
 use Rattle.startup.specs.declared.machine.Machine.{Machine}
 

@@ -6,8 +6,8 @@ use mathlib.Core.Logic.{_↔_}
 use mathlib.Core.Bool.{Bool, true, false, cond}
 use mathlib.Core.List.{List, [], _∷_, _++_}
 use lib.ListN.{length}
-use Rattle.startup.specs.Files.{Store, writes}
-use Rattle.startup.specs.Order.{Op, put, wait, storesOf}
+use Rattle.order.specs.Files.{Store, writes}
+use Rattle.order.specs.Order.{Op, put, wait, storesOf}
 use Rattle.startup.specs.Start.{polledOf, at-wait, after, walk}
 use Rattle.startup.specs.Cuts.{Answers, none, store, ready, Silent}
 

@@ -14,7 +14,7 @@ use Rattle.clocks.specs.declared.InternalRCCConfig.{InternalRCCConfig}
 use Rattle.plan.specs.Plan.{planOf}
 use Rattle.plan.specs.declared.Planned.{Planned}
 use Rattle.plan.specs.declared.Planned.the-variants.{Refused as NotPlanned, Ready}
-use Rattle.startup.specs.Order.{opsOf}
+use Rattle.order.specs.Order.{opsOf}
 use Rattle.startup.specs.Start.{walk, startedOf, refusedOf, limitOf, plannedStart, startOf}
 use Rattle.startup.specs.declared.Started.{Started}
 

@@ -7,19 +7,17 @@ use mathlib.Core.Bool.{Bool, true, false, cond}
 use lib.Dec.{eqb}
 use lib.ListN.{drop}
 use borrow.Author.Tests.{eq-eqb, ne-eqb}
-use Rattle.pll.specs.Fixed.{inside}
 use Rattle.clocks.specs.declared.Clocks.{Clocks}
 use Rattle.clocks.specs.declared.InternalRCCConfig.{InternalRCCConfig}
-use Rattle.startup.specs.Files.{writes}
-use Rattle.startup.specs.Order.{Op, put, wait}
+use Rattle.order.specs.Files.{writes}
+use Rattle.order.specs.Order.{Op, put, wait}
 use Rattle.startup.specs.Start.{Polled, polledOf, Ending, at-end, at-cut, at-wait, Walked, after, stopped, walk, outcomeOf, startedOf}
 use Rattle.startup.specs.Machine.{going, live, storeOf, putOf, pollOf, waitedOf, waitOf, runs, beginOf, outcomeBy, endedOf}
 use Rattle.startup.specs.declared.Outcome.the-variants.{Unanswered}
 use Rattle.startup.specs.declared.Started.{Started}
 use Rattle.startup.specs.declared.machine.Machine.{Machine}
 use Rattle.startup.specs.declared.machine.Poll.{Poll}
-use Rattle.pll.proofs.Outputs.{inside-told}
-use Rattle.startup.proofs.Looks.{both-told}
+use Rattle.order.proofs.Numbered.{numbered, first-wait}
 use Rattle.startup.proofs.Polls.{Plain, plain}
 
 -- ---- a machine that has ended
@@ -65,12 +63,6 @@ unfolding waitOf live
 wait-goes xs lim m k n e s = simp (goes m n e s)
 
 -- ---- what each comes to
--- every wait has a number of 1 to 8
-abbrev pub numbered : List Op → Bool
-numbered [] = true
-numbered (put ws ∷ os) = numbered os
-numbered (wait k ∷ os) = cond (inside 1 8 k) (numbered os) false
-
 -- after no poll more
 none-more : (x : Clocks) (y : InternalRCCConfig) (e : Ending) (f : List ℕ) (k : ℕ) → record { outcome = outcomeOf x y e; polls = k; file = f } ≡ startedOf x y (after k (record { ending = e; file = f; polls = 0 }))
 none-more x y e f k = let z : k ≡ k + 0 = omega arith in ap (λ (j : ℕ). record { outcome = outcomeOf x y e; polls = j; file = f }) z
@@ -127,10 +119,9 @@ module _ (xs : List ℕ) (lim : ℕ) (x : Clocks) (y : InternalRCCConfig) where
       ∙ by-left os (record { file = writes (m .file) ws; left = n; polls = m .polls; at = m .at; stop = m .stop }) n refl s u
   by-left (wait k ∷ os) m zero e s u = ap (endedOf x y) (run-ended xs lim m (wait k ∷ os) (cut-ended m e)) ∙ ended-cut x y m e s
   by-left (wait k ∷ os) m (suc n) e s u =
-      let v = both-told (inside 1 8 k) (numbered os) u in
-      let r = inside-told 1 8 k (v .0) in
+      let v = first-wait k os u in
       ap (λ (t : Machine). endedOf x y (runs xs lim t os)) (wait-goes xs lim m k n e s)
-      ∙ step-wait k n os m (pollOf xs (m .at) lim 0) (polledOf lim (drop (m .at) xs)) (plain xs (m .at) lim 0) e s (λ (q : k ≡ 0). omega (arith, r .0))
+      ∙ step-wait k n os m (pollOf xs (m .at) lim 0) (polledOf lim (drop (m .at) xs)) (plain xs (m .at) lim 0) e s (λ (q : k ≡ 0). omega (arith, v .0 .low))
       (λ t h. by-left os t (t .left) refl h (v .1)) (polledOf lim (drop (m .at) xs) .ready) refl
 
 -- from the beginning on

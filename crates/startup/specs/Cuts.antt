@@ -9,9 +9,10 @@ use Rattle.kinds.specs.Table.{Between, Outside}
 use Rattle.kinds.specs.declared.CFGR.{CFGR}
 use Rattle.clocks.specs.declared.Clocks.{Clocks}
 use Rattle.clocks.specs.declared.InternalRCCConfig.{InternalRCCConfig}
-use Rattle.startup.specs.Files.{Store, applies}
-use Rattle.startup.specs.Order.{Op, put, wait, storesOf, waits}
+use Rattle.order.specs.Files.{Store, applies}
+use Rattle.order.specs.Order.{Op, put, wait, storesOf, waits}
 use Rattle.startup.specs.Start.{Ending, at-end, at-cut, at-wait, polledOf, outcomeOf, refusedOf, startOf}
+use Rattle.startup.specs.declared.Outcome.the-variants.{Refused, Unanswered}
 use Rattle.startup.specs.declared.Started.{Started}
 
 pub data Leaves (os : List Op) (cut : ℕ) (f : List ℕ) : Ending → List ℕ → Type 0 where
@@ -63,3 +64,9 @@ pub record Try : Type 0 where
 abbrev pub tried : CFGR → List ℕ → List Try → List ℕ
 tried c f [] = f
 tried c f (t ∷ l) = tried c (startOf c f (t .limit) (t .answers) (t .cut) .file) l
+
+-- a start that made the switch to HSI: its cut allows two stores, it was not refused, and HSI's own wait was answered
+pub record Switched (cut : ℕ) (r : Started) : Type 0 where
+  pub stores : 2 ≤ cut
+  pub taken : (n : ℕ) → r .outcome ≡ Refused n → ⊥
+  pub answered : r .outcome ≡ Unanswered 1 → ⊥

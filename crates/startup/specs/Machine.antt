@@ -8,8 +8,8 @@ use lib.Dec.{ltb, eqb}
 use lib.ListN.{length, getD}
 use Rattle.clocks.specs.declared.Clocks.{Clocks}
 use Rattle.clocks.specs.declared.InternalRCCConfig.{InternalRCCConfig}
-use Rattle.startup.specs.Files.{writes}
-use Rattle.startup.specs.Order.{Op, put, wait}
+use Rattle.order.specs.Files.{writes}
+use Rattle.order.specs.Order.{Op, put, wait}
 use Rattle.startup.specs.declared.machine.Machine.{Machine}
 use Rattle.startup.specs.declared.machine.Poll.{Poll}
 use Rattle.startup.specs.declared.Outcome.{Outcome}

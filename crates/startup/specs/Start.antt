@@ -11,8 +11,8 @@ use Rattle.plan.specs.Plan.{planOf}
 use Rattle.plan.specs.Refusals.{planNumbers}
 use Rattle.plan.specs.declared.Planned.{Planned}
 use Rattle.plan.specs.declared.Planned.the-variants.{Refused as NotPlanned, Ready}
-use Rattle.startup.specs.Files.{writes}
-use Rattle.startup.specs.Order.{Op, put, wait, opsOf}
+use Rattle.order.specs.Files.{writes}
+use Rattle.order.specs.Order.{Op, put, wait, opsOf}
 use Rattle.startup.specs.declared.Outcome.{Outcome}
 use Rattle.startup.specs.declared.Outcome.the-variants.{Done, Cut, Refused, Unanswered}
 use Rattle.startup.specs.declared.Started.{Started}

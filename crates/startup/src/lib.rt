@@ -1,6 +1,5 @@
 // Document 01, "Start-up": freeze, over a modelled register file, with limited polls and a cut. The names are those of rcc.rs.
 mod machine;
-mod registers;
 mod sections;
 
 use clocks::Clocks;
@@ -9,14 +8,15 @@ use kinds::CFGR;
 use kinds::limits::outside;
 use machine::Machine;
 use machine::begun;
+use order::PLACES;
+use order::registers;
 use plan::Planned;
 use plan::plan;
-pub use registers::PLACES;
 ghost use mathlib.Core.Path.{_≡_};
 ghost use Prim.Native.Nat.{_≤_};
 ghost use Rattle.plan.specs.Plan.{planOf};
 ghost use Rattle.startup.specs.Machine.{beginOf, Ran, outcomeBy, endedOf};
-ghost use Rattle.startup.specs.Order.{opsOf};
+ghost use Rattle.order.specs.Order.{opsOf};
 ghost use Rattle.startup.specs.Start.{refusedOf, limitOf, plannedStart, startOf};
 
 // How a start ended: whole or at the cut, with the plan's clocks and field codes; refused by 13 or the plan; or at a wait that was
@@ -76,7 +76,7 @@ fn run(
     let m = sections::sai_part(m, sai);
     let m = sections::choice_part(m, choice);
     let m = sections::i2s_part(m, i2s);
-    sections::last_part(m, answers, limit, mco, config, sections::sw(hse, pll))
+    sections::last_part(m, answers, limit, mco, config, registers::sw(hse, pll))
 }
 
 // How a start ended, by its machine.

@@ -1,10 +1,9 @@
 // What a start runs on. Once it has ended, at the cut or by a wait that was not answered, every further step leaves it as it is.
-use super::registers;
-use super::registers::PLACES;
+use order::PLACES;
 ghost use mathlib.Core.List.{[], _∷_};
 ghost use mathlib.Core.Path.{_≡_};
 ghost use Prim.Native.Nat.{_+_, _<_, _≤_};
-ghost use Rattle.startup.specs.Places as places;
+ghost use Rattle.order.specs.Places as places;
 ghost use Rattle.startup.specs.Machine.{beginOf, going, pollOf, waitedOf, Room, Stored, Put, Waited};
 
 // The register file, the stores left before the cut, the polls made, the next of the answers, and the wait that was not answered or 0.
@@ -64,8 +63,9 @@ pub(crate) fn set(m: Machine, place: usize, value: u32) -> Machine
     requires { ⌜ place < places.PLACES ⌝ }
     ensures { λ r. ⌜ Put m ((place, value) ∷ []) r ⌝ }
 {
-    let file = m.file;
-    store(m, registers::put(file, place, value))
+    let mut file = m.file;
+    file[place] = value;
+    store(m, file)
 }
 
 // Polls until a 1 is taken or the limit is reached; a poll past the end takes nothing, isn't ready and counts.

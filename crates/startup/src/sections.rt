@@ -3,7 +3,6 @@ use super::machine::Machine;
 use super::machine::set;
 use super::machine::store;
 use super::machine::wait;
-use super::registers;
 use clocks::InternalRCCConfig;
 use kinds::Choice48;
 use kinds::HSEClock;
@@ -12,11 +11,11 @@ use kinds::LSEClock;
 use kinds::Mco;
 use kinds::Pll;
 use kinds::Sai;
-ghost use mathlib.Core.Path.{_≡_};
+use order::registers;
 ghost use Prim.Native.Nat.{_<_};
-ghost use Rattle.startup.specs.Places as places;
+ghost use Rattle.order.specs.Places as places;
 ghost use Rattle.startup.specs.Machine.{Room, Ran, Puts};
-ghost use Rattle.startup.specs.Order.{hsiOps, crystalOps, hseOps, pllOn, overOps, chosen, pllStored, pllOps, lseOps, lsiOps, saiOps, choiceOps, i2sOps, swOf, lastOps};
+ghost use Rattle.order.specs.Order.{hsiOps, crystalOps, hseOps, pllOn, overOps, pllOps, lseOps, lsiOps, saiOps, choiceOps, i2sOps, lastOps};
 
 // HSION; W; SW = HSI.
 pub(crate) fn hsi_part(m: Machine, answers: &[u8], limit: u32) -> Machine
@@ -103,25 +102,6 @@ fn over_drive(m: Machine, answers: &[u8], limit: u32, overdrive: bool) -> Machin
     }
 }
 
-// Whether a 48 MHz clock is chosen.
-fn is_chosen(choice: Choice48) -> bool
-    ensures { λ r. ⌜ r ≡ chosen choice ⌝ }
-{
-    match choice {
-        Choice48::Absent => false,
-        Choice48::Pllq => true,
-        Choice48::Pllsai => true,
-    }
-}
-
-// Whether the PLL's fields are stored: use_pll or a 48 MHz choice.
-fn is_stored(pll: Pll) -> bool
-    ensures { λ r. ⌜ r ≡ pllStored pll ⌝ }
-{
-    let choice = pll.pll48clk;
-    if pll.use_pll { true } else { is_chosen(choice) }
-}
-
 // The PLL, voltage and over-drive.
 pub(crate) fn pll_part(
     m: Machine,
@@ -134,7 +114,7 @@ pub(crate) fn pll_part(
     requires { ⌜ Room 2 limit m ⌝ }
     ensures { λ r. ⌜ Ran (now (answers .entry)) limit m (pllOps hse pll config) 3 r ⌝ }
 {
-    if is_stored(pll) {
+    if registers::is_stored(pll) {
         let m = pll_on(m, answers, limit, hse, pll, config.vos_scale as u32);
         over_drive(m, answers, limit, config.overdrive)
     } else {
@@ -209,17 +189,6 @@ pub(crate) fn i2s_part(m: Machine, i2s: I2s) -> Machine
         set(m, registers::PLLI2SON, 1)
     } else {
         m
-    }
-}
-
-// SW: PLL if use_pll, else HSE if given, else HSI.
-pub(crate) fn sw(hse: HSEClock, pll: Pll) -> u32
-    ensures { λ r. ⌜ r ≡ swOf hse pll ⌝ }
-{
-    if pll.use_pll {
-        2
-    } else {
-        registers::pllsrc(hse)
     }
 }
 

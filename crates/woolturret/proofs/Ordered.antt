@@ -12,7 +12,7 @@ use Rattle.kinds.specs.Table.{Between, Outside}
 use Rattle.kinds.specs.declared.CFGR.{CFGR}
 use Rattle.kinds.proofs.Turns.{none-is}
 use Rattle.kinds.proofs.Check.{Told, inside, broken, outside-told}
-use Rattle.startup.specs.Places.{PLACES}
+use Rattle.order.specs.Places.{PLACES}
 use Rattle.startup.specs.Start.{limitOf, startOf, startNumbers}
 use Rattle.startup.specs.Start.{numberOf as outcomeNumber}
 use Rattle.startup.proofs.View.{apart}

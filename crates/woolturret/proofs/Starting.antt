@@ -5,7 +5,7 @@ use mathlib.Core.List.{List}
 use lib.ListN.{length}
 use borrow.Author.Tests.{eq-eqb, ne-eqb}
 use Rattle.kinds.specs.declared.CFGR.{CFGR}
-use Rattle.startup.specs.Places.{PLACES}
+use Rattle.order.specs.Places.{PLACES}
 use Rattle.startup.specs.Start.{limitOf, startOf}
 use Rattle.startup.specs.declared.Started.{Started}
 use Rattle.record.specs.declared.Fault.{Fault}

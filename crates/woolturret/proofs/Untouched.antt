@@ -8,8 +8,8 @@ use lib.ListN.{length}
 use Rattle.kinds.specs.declared.CFGR.{CFGR}
 use Rattle.clocks.specs.declared.Clocks.{Clocks}
 use Rattle.clocks.specs.declared.InternalRCCConfig.{InternalRCCConfig}
-use Rattle.startup.specs.Places.{PLACES}
-use Rattle.startup.specs.Order.{opsOf}
+use Rattle.order.specs.Places.{PLACES}
+use Rattle.order.specs.Order.{opsOf}
 use Rattle.startup.specs.Start.{Ending, at-end, at-cut, at-wait, Walked, walk, outcomeOf, startedOf, limitOf, startOf}
 use Rattle.startup.specs.declared.Started.{Started}
 use Rattle.startup.proofs.View.{StartView, bad-limit, not-planned, ran, start-view}

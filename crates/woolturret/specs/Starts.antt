@@ -6,7 +6,7 @@ use mathlib.Core.List.{List}
 use lib.Dec.{eqb}
 use lib.ListN.{length}
 use Rattle.kinds.specs.declared.CFGR.{CFGR}
-use Rattle.startup.specs.Places.{PLACES}
+use Rattle.order.specs.Places.{PLACES}
 use Rattle.startup.specs.Start.{limitOf, startOf, waitNamed}
 use Rattle.startup.specs.Start.{numberOf as outcomeNumber}
 use Rattle.startup.specs.declared.Outcome.{Outcome}

@@ -3,13 +3,13 @@ use super::Report;
 use kinds::CFGR;
 use numbers::CLOCKS;
 use numbers::plans::clock_numbers;
+use order::PLACES;
 use startup::Outcome;
-use startup::PLACES;
 use startup::Started;
 use startup::freeze;
 ghost use mathlib.Core.Path.{_≡_};
 ghost use lib.ListN.{length};
-ghost use Rattle.startup.specs.Places as places;
+ghost use Rattle.order.specs.Places as places;
 ghost use Rattle.woolturret.specs.Starts as spec;
 
 // 13 or 14.
