@@ -31,6 +31,12 @@
 
 /* Raised with every change of what a function here takes or answers. */
 #define WOOLTURRET_INTERFACE 1
+#define WOOLTURRET_CONFIG 30
+#define WOOLTURRET_CLOCKS 16
+#define WOOLTURRET_PLACES 35
+#define WOOLTURRET_LINE 157
+#define WOOLTURRET_RECORD 64
+#define WOOLTURRET_SEARCH 5
 
 #ifdef __cplusplus
 extern "C" {
