@@ -1,7 +1,7 @@
 //! The host: runs the static library beside the unchanged Rust, and writes what the Rust alone
 //! answers. `USAGE` says how it is called.
 //!
-//! No module uses one that uses it, and each folder uses only those before it, as .ci/circle checks:
+//! No modules use one another in a circle, and each folder uses only those before it (.ci/circle):
 //! sizes, say, rust, model, added, library, cases, compare, timing.
 
 #[macro_use]

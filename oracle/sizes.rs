@@ -19,7 +19,7 @@ pub const SEARCH: usize = 5;
 pub const RECORD: usize = 64;
 pub const MOST_RECORDS: usize = 1_000_000;
 
-/// Numbers of a line, and the bytes of the longest: `ok`, a space and ten digits for each, a newline.
+/// Numbers of a line, and bytes of the longest: `ok`, a space and ten digits for each, a newline.
 pub const QUANTITIES: usize = 14;
 pub const LINE: usize = 2 + QUANTITIES * (1 + 10) + 1;
 

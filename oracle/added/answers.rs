@@ -1,5 +1,5 @@
-//! The Rust's answers with what is added to them: the refusal number where an assertion fails, and the
-//! passes. All that the Rust plans or starts comes in here.
+//! The Rust's answers with what is added to them: the refusal number where an assertion fails, and
+//! the passes. All that the Rust sets, searches, plans or stores comes in here.
 
 use hal::pac::register_file::{self, Event};
 use hal::rcc::{self, CFGR};

@@ -1,5 +1,5 @@
-//! What document 01, or a change asked for after it, adds to the Rust, and the Rust's answers with all
-//! of it: rcc.rs and the log of its stores and waits stay as they are, and what is added is here.
+//! What document 01, or a change asked for after it, adds to the Rust, and the Rust's answers with
+//! it: rcc.rs and the log of its stores and waits stay as they are, and what is added is here.
 
 pub mod answers;
 pub mod check;

@@ -1,5 +1,5 @@
-//! A start as far as the Rust has nothing of it: limited polls, the cut and their refusals, over the
-//! list of stores and waits that the Rust's own `freeze` made.
+//! A start as far as the Rust has nothing of it: limited polls, the cut and 12 to 14, over the list
+//! of stores and waits that the Rust's own `freeze` made.
 
 use hal::pac::register_file;
 pub use hal::pac::register_file::{Event, Place};

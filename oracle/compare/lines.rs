@@ -1,6 +1,5 @@
-//! Comparison 8: the program's line for any bytes, against the line that the host
-//! writes from the Rust's plan; the rest of the lent buffer stays as it was, and so does
-//! what is on either side of it.
+//! Comparison 8: the program's line for any bytes, against the line that the host writes from the
+//! Rust's plan; the rest of the lent buffer, and what is on either side of it, stays as it was.
 
 use crate::added::answers;
 use crate::added::lines;

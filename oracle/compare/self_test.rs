@@ -1,6 +1,5 @@
-//! Whether the oracle itself stands: the assertions found, the defaults, one
-//! plan of document 01, the log of two runs of the Rust's own `freeze`, and the
-//! polls and the cut of starts over one of them.
+//! Whether the oracle itself stands: the assertions found, the defaults, one plan of document 01,
+//! the log of two runs of the Rust's own `freeze`, and the polls and the cut over one of them.
 
 use hal::pac::register_file::{self, Event};
 use hal::rcc::CFGR;

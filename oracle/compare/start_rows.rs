@@ -25,7 +25,10 @@ pub const CUTS: Group = (
 
 pub const SECTIONS: Group = (
     "section of the list",
-    &["HSE", "PLL", "over-drive", "LSE", "LSI", "PLLSAI", "48 MHz choice", "PLLI2S", "none of them"],
+    &[
+        "HSE", "PLL", "over-drive", "LSE", "LSI", "PLLSAI", "48 MHz choice", "PLLI2S",
+        "none of them",
+    ],
 );
 
 /// The place that only the stores of a section name, in the order of `SECTIONS`.

@@ -1,6 +1,5 @@
 //! Comparison 9: the start of a record over a register file, against the stores and waits of the
-//! Rust's own `freeze`: never cut, cut after each store, started again over what was left, with
-//! waits that are not answered, and refused.
+//! Rust's own `freeze`: whole, cut after each store, started again, not answered, and refused.
 
 use crate::added::answers::{self, File, Frozen};
 use crate::added::check;

@@ -1,6 +1,5 @@
 //! How many records a second the program and the Rust plan: each as a program of its own that
-//! reads the same file and writes its lines to another, by turns. Of nine timings the least is
-//! taken, for both: what else the machine does only adds, and to a short run the most.
+//! reads the same file and writes its lines to another, by turns.
 
 use std::fs::{self, File};
 use std::hint::black_box;
@@ -17,6 +16,9 @@ use crate::sizes::{MOST_RECORDS, RECORD};
 
 const RECORDS: u64 = 200_000;
 const SEED: u64 = 1;
+
+/// Of so many timings the least is taken, for both: what else the machine does only adds, and to a
+/// short run the most.
 const TIMINGS: usize = 9;
 
 /// The records of the files by which the program's time is seen to grow.

@@ -1,7 +1,5 @@
 //! The program as it would be over the Rust, to be timed: records from standard input, a line
-//! for each to standard output. Nothing in it panics, as catching a panic takes as long as many
-//! a search: it is the Rust's own search and `calculate_clocks`, with plain tests for 1 to 6 and
-//! 9 to 11 and the lines of `pll_configure` about the search written anew.
+//! for each to standard output.
 
 use std::io::{self, BufWriter, Read, Write};
 
@@ -35,6 +33,9 @@ pub fn run() -> io::Result<()> {
     }
 }
 
+/// Nothing in it panics, as catching a panic takes as long as many a search: it is the Rust's own
+/// search and `calculate_clocks`, with plain tests for 1 to 6 and 9 to 11 and the lines of
+/// `pll_configure` about the search written anew.
 fn plan(record: &[u8]) -> Result<Plan, u32> {
     let mut numbers = record::read(record).ok_or(14u32)?;
     none(limits(&numbers))?;
