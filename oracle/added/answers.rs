@@ -5,7 +5,7 @@ use hal::pac::register_file::{self, Event};
 use hal::rcc::{self, CFGR};
 
 use crate::added::check;
-use crate::added::refusals::Assertions;
+use crate::added::refusals::{Assertions, MALFORMED};
 use crate::added::setters::Call;
 use crate::model::clocks::{self, Clocks, Plan};
 use crate::model::configuration::Numbers;
@@ -28,8 +28,15 @@ fn of_the_rust(cfgr: &CFGR, given: &Numbers) -> Numbers {
     numbers
 }
 
-/// A call of a known setter whose argument fits: the configuration after it, or 1 to 6.
+/// A setter call: the configuration after it; or 14 if there is no such setter or code, 6 if the
+/// Rust's parameter can't hold the argument, or the Rust's 1 to 6.
 pub fn set(rust: &Assertions, numbers: &Numbers, call: Call) -> Result<Numbers, u32> {
+    if !call.is_known() {
+        return Err(MALFORMED);
+    }
+    if !call.fits() {
+        return Err(6);
+    }
     rust.caught(|| of_the_rust(&call.of_the_rust(to_the_rust(numbers)), numbers))
 }
 

@@ -40,17 +40,17 @@ fn calls(numbers: &Numbers) -> Vec<Call> {
 /// Every refusal that a record deserves by its layout or its values, each value put through
 /// its setter.
 pub fn refusals(rust: &Assertions, bytes: &[u8]) -> Vec<u32> {
-    let Some(numbers) = record::read(bytes) else {
-        return vec![14];
-    };
     let set = |call: &Call| rust.caught(|| call.of_the_rust(CFGR::defaults())).err();
-    calls(&numbers).iter().filter_map(set).collect()
+    match record::read(bytes) {
+        Ok(numbers) => calls(&numbers).iter().filter_map(set).collect(),
+        Err(malformed) => vec![malformed],
+    }
 }
 
 /// The configuration that a record holds, or 14 or the least of 1 to 6.
 pub fn checked(rust: &Assertions, bytes: &[u8]) -> Result<Numbers, u32> {
     match refusals(rust, bytes).into_iter().min() {
         Some(least) => Err(least),
-        None => record::read(bytes).ok_or(14),
+        None => record::read(bytes),
     }
 }

@@ -1,6 +1,7 @@
 //! The request record, which the Rust does not have: where each number of a configuration stands in
 //! it, and a plain writer and reader.
 
+use crate::added::refusals::MALFORMED;
 use crate::model::configuration::{at, Numbers};
 use crate::sizes::{CONFIG, RECORD};
 
@@ -88,8 +89,12 @@ pub fn write(numbers: &Numbers) -> [u8; RECORD] {
     record
 }
 
-/// The configuration of a record, or nothing if the record is malformed.
-pub fn read(record: &[u8]) -> Option<Numbers> {
+/// The configuration of a record, or 14 if the record is malformed.
+pub fn read(record: &[u8]) -> Result<Numbers, u32> {
+    well_formed(record).ok_or(MALFORMED)
+}
+
+fn well_formed(record: &[u8]) -> Option<Numbers> {
     if record.len() != RECORD {
         return None;
     }

@@ -2,6 +2,9 @@
 
 use crate::rust::panics::{self, Assertion};
 
+/// A record, a setter, a code or a length that there is not: the Rust has no assertion for it.
+pub const MALFORMED: u32 = 14;
+
 /// The lines of rcc.rs with an assertion or panic that a refusal stands for, and its number.
 pub struct Assertions(Vec<(u32, u32)>);
 

@@ -5,6 +5,7 @@ use hal::pac::register_file;
 pub use hal::pac::register_file::{Event, Place};
 
 use crate::added::answers::{File, Frozen};
+use crate::added::refusals::MALFORMED;
 use crate::model::clocks::Clocks;
 use crate::sizes::{MOST_POLLS, WAITS};
 
@@ -108,7 +109,7 @@ pub fn started(
     let refused = |refusal| (Started { refusal, ..Started::default() }, first.to_vec(), None);
     match (rust, first.try_into()) {
         _ if !(1..=MOST_POLLS).contains(&asked.limit) => refused(13),
-        (_, Err(_)) => refused(14),
+        (_, Err(_)) => refused(MALFORMED),
         (Err(number), _) => refused(*number),
         (Ok(frozen), Ok(file)) => {
             let (started, file) = start(&frozen.log, file, asked);

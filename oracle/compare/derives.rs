@@ -32,7 +32,7 @@ pub fn run(run: &mut Run, requests: &Requests) -> u64 {
         let Run { assertions, random, .. } = &mut *derives.run;
         let (record, planned) = (requests.record(assertions, random), random.once_in(2));
         match record::read(&record) {
-            Some(numbers) if planned => {
+            Ok(numbers) if planned => {
                 let numbers = derives.as_planned(&numbers);
                 derives.compare(&record::write(&numbers));
             }

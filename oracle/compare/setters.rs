@@ -3,6 +3,7 @@
 
 use crate::added::answers;
 use crate::added::record;
+use crate::added::refusals::MALFORMED;
 use crate::added::setters::{Argument, Call, HSE, SETTERS};
 use crate::cases::boundary_records::beside;
 use crate::cases::random::Random;
@@ -41,33 +42,27 @@ pub fn run(run: &mut Run) -> u64 {
 impl Setters<'_> {
     /// One call on the configuration of a record; answers the configuration after it.
     fn call(&mut self, record: &[u8], call: Call) -> Option<Numbers> {
-        let before = record::read(record);
-        let expected = self.expected(before, call);
+        let expected = self.expected(record, call);
         let ours = library::set(record, call.setter, call.a, call.b);
         self.tally.count(ours.0);
         self.run.differences.compare(ours, expected, || {
             let name = SETTERS.get(call.setter as usize).map_or("unknown", |setter| setter.0);
             format!("{name} {call:?} on the record {record:02x?}")
         });
-        (expected.0 != 14).then_some(expected.1)
+        (expected.0 != MALFORMED).then_some(expected.1)
     }
 
     /// A refused call hands back the configuration that it came with; 14 writes nothing.
-    fn expected(&mut self, before: Option<Numbers>, call: Call) -> (u32, Numbers) {
-        let Some(before) = before else {
+    fn expected(&mut self, record: &[u8], call: Call) -> (u32, Numbers) {
+        let Ok(before) = record::read(record) else {
             self.malformed += 1;
-            return (14, [UNTOUCHED; CONFIG]);
+            return (MALFORMED, [UNTOUCHED; CONFIG]);
         };
-        if !call.is_known() {
-            self.unknown += 1;
-            return (14, [UNTOUCHED; CONFIG]);
-        }
-        if !call.fits() {
-            self.unfit += 1;
-            return (6, before);
-        }
+        self.unknown += u64::from(!call.is_known());
+        self.unfit += u64::from(call.is_known() && !call.fits());
         match answers::set(&self.run.assertions, &before, call) {
             Ok(after) => (0, after),
+            Err(MALFORMED) => (MALFORMED, [UNTOUCHED; CONFIG]),
             Err(number) => (number, before),
         }
     }

@@ -37,7 +37,7 @@ pub fn run() -> io::Result<()> {
 /// search and `calculate_clocks`, with plain tests for 1 to 6 and 9 to 11 and the lines of
 /// `pll_configure` about the search written anew.
 fn plan(record: &[u8]) -> Result<Plan, u32> {
-    let mut numbers = record::read(record).ok_or(14u32)?;
+    let mut numbers = record::read(record)?;
     none(limits(&numbers))?;
     configure(&mut numbers)?;
     let clocks = answers::clocks_of(&numbers);
