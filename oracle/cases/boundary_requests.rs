@@ -25,7 +25,22 @@ fn asking(numbers: &Numbers, flag: usize, hertz: u32) -> Numbers {
     changed(*numbers, &[(flag, 1), (flag + 1, hertz)])
 }
 
+/// Clocks by bypass, HCLK requests, and the end of a row of HPRE that their ratio lies just above:
+/// f32 rounds it down to that end. By whole numbers the divider would be the next row's, so these
+/// tell f32 from an exact ceiling at ends where the HCLKs beside SYSCLK over the end do not.
+pub const PARTED: [(u32, u32, u32); 2] = [(25_102_176, 131_425, 191), (25_100_672, 65_537, 383)];
+
 pub fn all() -> Vec<Numbers> {
+    let mut all = lists();
+    all.extend(PARTED.map(|(hertz, hclk, _)| {
+        let bypass = of_defaults(&[(at::HSE_KIND, 2), (at::HSE, hertz)]);
+        asking(&bypass, at::HCLK, hclk)
+    }));
+    all
+}
+
+/// The long lists, of which the sample has one in so many.
+pub fn lists() -> Vec<Numbers> {
     let mut all = examples();
     all.extend(hclk_rows());
     all.extend(pclk_rows());

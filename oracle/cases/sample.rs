@@ -24,7 +24,7 @@ const TAIL: usize = 5;
 /// The records and the tail, or the rows that do not come out.
 pub fn records(rust: &Assertions) -> Result<Vec<u8>, Vec<Row>> {
     let (requests, mut random) = (Requests::new(), Random::new(1));
-    let boundary = boundary_requests::all().into_iter().step_by(OF_REQUESTS);
+    let boundary = boundary_requests::lists().into_iter().step_by(OF_REQUESTS);
     let chosen = boundary_requests::examples().into_iter().chain(boundary);
     let mut records: Vec<Vec<u8>> =
         chosen.map(|numbers| record::write(&numbers).to_vec()).collect();

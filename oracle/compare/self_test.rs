@@ -1,5 +1,5 @@
-//! Whether the oracle itself stands: the assertions found, the defaults, one plan of document 01,
-//! the log of two runs of the Rust's own `freeze`, and the polls and the cut over one of them.
+//! Whether the oracle itself stands: the assertions found, the defaults, a plan, ratios that f32
+//! rounds, the log of two runs of the Rust's own `freeze`, and the polls and the cut over one.
 
 use hal::pac::register_file::{self, Event};
 use hal::rcc::CFGR;
@@ -7,6 +7,7 @@ use hal::rcc::CFGR;
 use crate::added::answers::to_the_rust;
 use crate::added::refusals::Assertions;
 use crate::added::starts::{start, Asked, Started};
+use crate::cases::boundary_requests::PARTED;
 use crate::cases::records::FULL;
 use crate::compare::tally::Differences;
 use crate::model::configuration::{at, DEFAULTS};
@@ -44,6 +45,11 @@ pub fn run(assertions: &Assertions, differences: &mut Differences) {
     let defaults = format!("{:?}", CFGR::defaults().numbers());
     hold("the Rust's defaults", defaults, format!("{:?}", &DEFAULTS[..RUST_CONFIG]));
     hold("a plan", planned(), "[8, 216, 0, 9] 216000000 [0, 5, 4, 7, 1, 1] true".into());
+    for (sysclk, hclk, end) in PARTED {
+        let ceilings = [sysclk.div_ceil(hclk), (sysclk as f32 / hclk as f32).ceil() as u32];
+        let what = format!("ceilings of {sysclk} over {hclk}, exact and by f32");
+        hold(&what, format!("{ceilings:?}"), format!("{:?}", [end + 1, end]));
+    }
     hold("freeze of the defaults", frozen(CFGR::defaults()), DEFAULT_LOG.into());
     let mut full = FULL;
     // P so that PLLSAI's output is at most 48 MHz, and an HCLK that needs its prescaler.
