@@ -1,51 +1,20 @@
 //! The host: runs the static library beside the unchanged Rust, and writes what the Rust alone
 //! answers. `USAGE` says how it is called.
+//!
+//! No modules use one another in a circle, and each folder uses only those before it (.ci/circle):
+//! sizes, say, rust, model, added, library, cases, compare, timing.
 
-/// A line to standard output; where nobody takes it any more, the run ends.
-macro_rules! say {
-    ($($words:tt)*) => { crate::said(format_args!($($words)*)) };
-}
+#[macro_use]
+mod say;
 
-mod answers;
-mod bench;
-mod bench_plans;
-mod boundary_cases;
-mod boundary_records;
-mod boundary_requests;
+mod added;
 mod cases;
-mod clocks;
-mod compare_checks;
-mod compare_configures;
-mod compare_damaged;
-mod compare_derives;
-mod compare_lines;
-mod compare_outputs;
-mod compare_plans;
-mod compare_searches;
-mod compare_setters;
-mod compare_starts;
-mod configuration;
-mod damage;
-mod fleet;
+mod compare;
 mod library;
-mod lines;
-mod panics;
-mod random;
-mod records;
-mod requests;
-mod rows;
-mod run;
-mod rust_program;
-mod sample;
-mod self_test;
-mod setters;
-mod start_cases;
-mod start_rows;
-mod starts;
-mod table;
-mod tally;
-mod walk;
-mod ways;
+mod model;
+mod rust;
+mod sizes;
+mod timing;
 
 use std::fmt::Arguments;
 use std::fs;
@@ -53,11 +22,15 @@ use std::io::{self, Read, Write};
 use std::path::Path;
 use std::process::ExitCode;
 
-use damage::Damage;
-use panics::Assertions;
-use random::Random;
-use requests::Requests;
-use run::Run;
+use added::lines;
+use added::refusals::Assertions;
+use cases::damage::Damage;
+use cases::random::Random;
+use cases::requests::Requests;
+use cases::{fleet, sample};
+use compare::run::Run;
+use rust::panics;
+use timing::rust_program;
 
 const USAGE: &str = "usage: host WORDS
   compare COUNT SEED          the library beside the Rust, but for starts
@@ -96,17 +69,11 @@ fn main() -> ExitCode {
     ExitCode::from(u8::from(!went_well))
 }
 
-fn said(words: Arguments) {
-    if writeln!(io::stdout(), "{words}").is_err() {
-        std::process::exit(1);
-    }
-}
-
 /// A run that has tested the oracle itself.
 fn begun(count: u64, seed: u64) -> Run {
     panics::install();
     let mut run = Run::new(count, seed);
-    self_test::run(&run.assertions, &mut run.differences);
+    compare::self_test::run(&run.assertions, &mut run.differences);
     run
 }
 
@@ -125,15 +92,15 @@ fn ended(run: &Run, seed: u64, what: Arguments) -> bool {
 /// of starts; answers whether all were equal.
 fn compare(count: u64, seed: u64) -> bool {
     let run = &mut begun(count, seed);
-    let calls = compare_setters::run(run);
-    let checks = compare_checks::run(run);
-    let searches = compare_searches::run(run);
-    let outputs = compare_outputs::run(run);
+    let calls = compare::setters::run(run);
+    let checks = compare::checks::run(run);
+    let searches = compare::searches::run(run);
+    let outputs = compare::outputs::run(run);
     let requests = &Requests::new();
-    let configures = compare_configures::run(run, requests);
-    let derives = compare_derives::run(run, requests);
-    let plans = compare_plans::run(run, requests);
-    let lines = compare_lines::run(run, requests);
+    let configures = compare::configures::run(run, requests);
+    let derives = compare::derives::run(run, requests);
+    let plans = compare::plans::run(run, requests);
+    let lines = compare::lines::run(run, requests);
     let what = format_args!(
         "{calls} setter calls, {checks} checks, {searches} searches, {outputs} outputs, \
          {configures} configures, {derives} derives, {plans} plans, {lines} lines"
@@ -145,7 +112,7 @@ fn compare(count: u64, seed: u64) -> bool {
 /// whether all were equal.
 fn starts(count: u64, seed: u64) -> bool {
     let run = &mut begun(count, seed);
-    let starts = compare_starts::run(run, &Requests::new());
+    let starts = compare::starts::run(run, &Requests::new());
     ended(run, seed, format_args!("{starts} starts"))
 }
 
@@ -153,7 +120,7 @@ fn starts(count: u64, seed: u64) -> bool {
 fn damage(count: u64, seed: u64) -> bool {
     let run = &mut begun(count, seed);
     let damage = &Damage::new(&run.assertions, seed);
-    let records = compare_damaged::run(run, damage);
+    let records = compare::damaged::run(run, damage);
     ended(run, seed, format_args!("{records} damaged records"))
 }
 
@@ -189,6 +156,6 @@ fn lines() -> io::Result<bool> {
 }
 
 fn bench(folder: &Path, planner: &[String]) -> io::Result<bool> {
-    bench::run();
-    bench_plans::run(folder, planner)
+    timing::searches::run();
+    timing::plans::run(folder, planner)
 }

@@ -1,8 +1,11 @@
 //! The C functions of the static library, declared once, behind safe functions
 //! that also notice an answer written where none belongs.
 
-use crate::clocks::{self, Clocks, Plan};
-use crate::configuration::Numbers;
+use crate::added::starts::Started;
+use crate::model::clocks::Clocks;
+use crate::model::configuration::Numbers;
+use crate::model::walk::Window;
+use crate::sizes::{CLOCKS, CONFIG, LINE, SEARCH};
 
 /// What an answer's numbers hold before a call, to see which are written.
 pub const UNTOUCHED: u32 = 0xA5A5_5A5A;
@@ -11,13 +14,8 @@ pub const UNTOUCHED_HERTZ: u64 = 0xA5A5_5A5A_A5A5_5A5A;
 
 pub const UNTOUCHED_BYTE: u8 = 0xA5;
 
-/// The longest line: `ok`, 14 numbers of ten digits with a space before each, a newline.
-pub const LINE: usize = 157;
-
 /// Bytes on either side of the buffer that a line is written to: nobody lent them.
-const GUARD: usize = 64;
-
-pub type Window = Option<(u32, u32)>;
+pub const GUARD: usize = 64;
 
 /// The refusal, the configuration as planned, its clocks, and the passes.
 pub type Planned = (u32, Numbers, Clocks, u32);
@@ -25,18 +23,8 @@ pub type Planned = (u32, Numbers, Clocks, u32);
 /// The length of a line, and the buffer that it stands in between its guards.
 pub type Lined = (u32, [u8; GUARD + LINE + GUARD]);
 
-/// What a start came to, as the library hands it back.
-#[repr(C)]
-#[derive(Clone, Copy, Debug, Default, PartialEq, Eq)]
-pub struct Started {
-    pub refusal: u32,
-    pub cut: u32,
-    pub wait: u32,
-    pub polls: u32,
-}
-
 mod c {
-    use super::Started;
+    use crate::added::starts::Started;
 
     extern "C" {
         pub fn woolturret_search(
@@ -90,11 +78,11 @@ mod c {
 
 /// The refusal, and passes, M, N, P, Q.
 #[inline]
-pub fn search(input: u32, p: Window, q: Window) -> (u32, [u32; 5]) {
+pub fn search(input: u32, p: Window, q: Window) -> (u32, [u32; SEARCH]) {
     // An absent window's ends are passed over; these would change the answer if not.
     let (pmin, pmax) = p.unwrap_or((0, u32::MAX));
     let (qmin, qmax) = q.unwrap_or((0, u32::MAX));
-    let mut out = [UNTOUCHED; 5];
+    let mut out = [UNTOUCHED; SEARCH];
     // SAFETY: `out` is as long as the function writes.
     let answer = unsafe {
         c::woolturret_search(
@@ -126,7 +114,7 @@ pub fn check(record: &[u8]) -> u32 {
 
 /// The refusal, and the configuration handed back.
 pub fn set(record: &[u8], setter: u32, a: u32, b: u32) -> (u32, Numbers) {
-    let mut out = [UNTOUCHED; 30];
+    let mut out = [UNTOUCHED; CONFIG];
     // SAFETY: pointer and length are those of one slice, which is only read, and
     // `out` is as long as the function writes.
     let answer =
@@ -136,7 +124,7 @@ pub fn set(record: &[u8], setter: u32, a: u32, b: u32) -> (u32, Numbers) {
 
 /// The refusal, the configuration as planned, and the passes.
 pub fn configure(record: &[u8]) -> (u32, Numbers, u32) {
-    let (mut config, mut passes) = ([UNTOUCHED; 30], UNTOUCHED);
+    let (mut config, mut passes) = ([UNTOUCHED; CONFIG], UNTOUCHED);
     // SAFETY: pointer and length are those of one slice, which is only read, and
     // `config` and `passes` are as long as the function writes.
     let answer = unsafe {
@@ -148,7 +136,7 @@ pub fn configure(record: &[u8]) -> (u32, Numbers, u32) {
 
 /// The refusal, and the clocks of the settings as they stand.
 pub fn derive(record: &[u8]) -> (u32, Clocks) {
-    let mut clocks = [UNTOUCHED; 16];
+    let mut clocks = [UNTOUCHED; CLOCKS];
     // SAFETY: pointer and length are those of one slice, which is only read, and
     // `clocks` is as long as the function writes.
     let answer =
@@ -157,7 +145,8 @@ pub fn derive(record: &[u8]) -> (u32, Clocks) {
 }
 
 pub fn plan(record: &[u8]) -> Planned {
-    let (mut config, mut clocks, mut passes) = ([UNTOUCHED; 30], [UNTOUCHED; 16], UNTOUCHED);
+    let (mut config, mut clocks) = ([UNTOUCHED; CONFIG], [UNTOUCHED; CLOCKS]);
+    let mut passes = UNTOUCHED;
     // SAFETY: pointer and length are those of one slice, which is only read, and
     // `config`, `clocks` and `passes` are as long as the function writes.
     let answer = unsafe {
@@ -172,14 +161,6 @@ pub fn plan(record: &[u8]) -> Planned {
     (answer, config, clocks, passes)
 }
 
-/// What `plan` must answer for a plan: refused, nothing is written but the passes.
-pub fn planned(plan: &Result<Plan, u32>, passes: u32) -> Planned {
-    match plan {
-        Ok((config, clocks)) => (0, *config, *clocks, passes),
-        Err(number) => (*number, [UNTOUCHED; 30], [UNTOUCHED; 16], passes),
-    }
-}
-
 pub fn line(record: &[u8]) -> Lined {
     let mut out = [UNTOUCHED_BYTE; GUARD + LINE + GUARD];
     let lent = &mut out[GUARD..GUARD + LINE];
@@ -187,14 +168,6 @@ pub fn line(record: &[u8]) -> Lined {
     // `lent` is as long as the function writes.
     let answer = unsafe { c::woolturret_line(record.as_ptr(), record.len(), lent.as_mut_ptr()) };
     (answer, out)
-}
-
-/// What `line` must answer for a plan: nothing is written but the line.
-pub fn lined(plan: &Result<Plan, u32>) -> Lined {
-    let line = clocks::line(plan);
-    let mut out = [UNTOUCHED_BYTE; GUARD + LINE + GUARD];
-    out[GUARD..GUARD + line.len()].copy_from_slice(line.as_bytes());
-    (line.len() as u32, out)
 }
 
 /// What the start came to, the file as it left it, and the clocks.
@@ -205,7 +178,7 @@ pub fn start(
     limit: u32,
     cut: u8,
 ) -> (Started, Vec<u32>, Clocks) {
-    let (mut file, mut clocks) = (first.to_vec(), [UNTOUCHED; 16]);
+    let (mut file, mut clocks) = (first.to_vec(), [UNTOUCHED; CLOCKS]);
     // SAFETY: each pointer and length are those of one slice, of which `file` alone is written,
     // and `clocks` is as long as the function writes.
     let started = unsafe {

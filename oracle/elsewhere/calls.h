@@ -6,15 +6,17 @@
 #include "woolturret.h"
 
 enum { SEARCH = 1, CHECK, SET, OUTPUT, CONFIGURE, DERIVE, PLAN, LINE, START };
-enum { MOST_BYTES = 256, MOST_OUT = 30, MOST_CLOCKS = 16, MOST_TEXT = 157, BEYOND = 71, MOST_PLACES = 64, MOST_ANSWERS = 8 * 65535 };
+enum { MOST_BYTES = 256, BEYOND = 71, MOST_PLACES = 64, MOST_ANSWERS = 8 * 65535 };
+_Static_assert(WOOLTURRET_RECORD <= MOST_BYTES && WOOLTURRET_PLACES <= MOST_PLACES, "a record and a file go through whole");
+_Static_assert(WOOLTURRET_SEARCH <= WOOLTURRET_CONFIG, "a search's answer goes where a configuration does");
 
 /* What a caller lends: it goes there and comes back, so that what the library leaves alone is left alone here. */
 struct lent {
     uint64_t hertz;
-    uint32_t out[MOST_OUT];
-    uint32_t clocks[MOST_CLOCKS];
+    uint32_t out[WOOLTURRET_CONFIG];
+    uint32_t clocks[WOOLTURRET_CLOCKS];
     uint32_t passes;
-    uint8_t text[MOST_TEXT];
+    uint8_t text[WOOLTURRET_LINE];
     uint8_t beyond[BEYOND]; /* lent by no call */
 };
 

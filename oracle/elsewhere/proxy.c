@@ -92,10 +92,10 @@ static uint32_t ask_with_out(struct call *c, uint32_t *out, size_t count)
 }
 
 uint32_t woolturret_search(uint32_t input, bool p, uint32_t pmin, uint32_t pmax, bool q, uint32_t qmin, uint32_t qmax,
-                           uint32_t out[5])
+                           uint32_t out[WOOLTURRET_SEARCH])
 {
     struct call c = {.function = SEARCH, .numbers = {input, p, pmin, pmax, q, qmin, qmax}};
-    return ask_with_out(&c, out, 5);
+    return ask_with_out(&c, out, WOOLTURRET_SEARCH);
 }
 
 uint32_t woolturret_output(uint32_t input, uint32_t m, uint32_t n, uint32_t d, uint64_t *out)
@@ -113,11 +113,12 @@ uint32_t woolturret_check(const uint8_t *bytes, size_t length)
     return ask(&c).answer;
 }
 
-uint32_t woolturret_set(const uint8_t *bytes, size_t length, uint32_t setter, uint32_t a, uint32_t b, uint32_t out[30])
+uint32_t woolturret_set(const uint8_t *bytes, size_t length, uint32_t setter, uint32_t a, uint32_t b,
+                        uint32_t out[WOOLTURRET_CONFIG])
 {
     struct call c = {.function = SET, .numbers = {setter, a, b}};
     put_bytes(&c, bytes, length);
-    return ask_with_out(&c, out, MOST_OUT);
+    return ask_with_out(&c, out, WOOLTURRET_CONFIG);
 }
 
 /* A call with a record and those of the three lent buffers that its function has; the others are null. */
@@ -136,22 +137,23 @@ static uint32_t ask_with_lent(uint32_t function, const uint8_t *bytes, size_t le
     return r.answer;
 }
 
-uint32_t woolturret_configure(const uint8_t *bytes, size_t length, uint32_t config[30], uint32_t *passes)
+uint32_t woolturret_configure(const uint8_t *bytes, size_t length, uint32_t config[WOOLTURRET_CONFIG], uint32_t *passes)
 {
     return ask_with_lent(CONFIGURE, bytes, length, config, NULL, passes);
 }
 
-uint32_t woolturret_derive(const uint8_t *bytes, size_t length, uint32_t clocks[16])
+uint32_t woolturret_derive(const uint8_t *bytes, size_t length, uint32_t clocks[WOOLTURRET_CLOCKS])
 {
     return ask_with_lent(DERIVE, bytes, length, NULL, clocks, NULL);
 }
 
-uint32_t woolturret_plan(const uint8_t *bytes, size_t length, uint32_t config[30], uint32_t clocks[16], uint32_t *passes)
+uint32_t woolturret_plan(const uint8_t *bytes, size_t length, uint32_t config[WOOLTURRET_CONFIG],
+                         uint32_t clocks[WOOLTURRET_CLOCKS], uint32_t *passes)
 {
     return ask_with_lent(PLAN, bytes, length, config, clocks, passes);
 }
 
-uint32_t woolturret_line(const uint8_t *bytes, size_t length, uint8_t out[157])
+uint32_t woolturret_line(const uint8_t *bytes, size_t length, uint8_t out[WOOLTURRET_LINE])
 {
     struct call c = {.function = LINE};
     put_bytes(&c, bytes, length);
@@ -162,11 +164,11 @@ uint32_t woolturret_line(const uint8_t *bytes, size_t length, uint8_t out[157])
     return r.answer;
 }
 
-/* Places past MOST_PLACES stay here too: a file that is not 35 long is neither read nor written. So do answers past MOST_ANSWERS:
+/* Places past MOST_PLACES stay here too: a file of a wrong length is neither read nor written. So do answers past MOST_ANSWERS:
  * no start polls more often. The library is told the true lengths. */
 struct woolturret_started woolturret_start(const uint8_t *bytes, size_t length, uint32_t *file, size_t places,
                                            const uint8_t *answers, size_t answered, uint32_t limit, uint8_t cut,
-                                           uint32_t clocks[16])
+                                           uint32_t clocks[WOOLTURRET_CLOCKS])
 {
     static struct start_call c; /* too large for a stack */
     struct start_reply r;
