@@ -2,4 +2,5 @@
 pub mod Lines
 pub mod Default
 pub mod Theorems
+pub mod InTurn
 pub mod Value

@@ -100,18 +100,18 @@ unfoldable pub validOf : ℕ → Pll → Sai → Bool
 validOf f l a = validBy (l .pll48clk) f l a
 
 -- `Clocks` also hands back HSE as given, LSE 32,768 and LSI 32,000 where asked
-abbrev pub hseOf : HSEClock → Request
-hseOf NoHse = NoRequest
-hseOf (Oscillator f) = Asked f
-hseOf (Bypass f) = Asked f
+abbrev pub hseGiven : HSEClock → Request
+hseGiven NoHse = NoRequest
+hseGiven (Oscillator f) = Asked f
+hseGiven (Bypass f) = Asked f
 
-abbrev pub lseOf : LSEClock → Request
-lseOf NoLse = NoRequest
-lseOf LseOscillator = Asked (record { 0 = 32768 })
-lseOf LseBypass = Asked (record { 0 = 32768 })
+abbrev pub lseGiven : LSEClock → Request
+lseGiven NoLse = NoRequest
+lseGiven LseOscillator = Asked (record { 0 = 32768 })
+lseGiven LseBypass = Asked (record { 0 = 32768 })
 
-abbrev pub lsiOf : Bool → Request
-lsiOf on = cond on (Asked (record { 0 = 32000 })) NoRequest
+abbrev pub lsiGiven : Bool → Request
+lsiGiven on = cond on (Asked (record { 0 = 32000 })) NoRequest
 
 abbrev pub clocksBy : ℕ → Ahb → Apb → Apb → Sources → Bool → Clocks
 clocksBy s bus one two o valid =
@@ -123,9 +123,9 @@ clocksBy s bus one two o valid =
       timclk1 = one .timclk;
       timclk2 = two .timclk;
       «pll48clk_valid» = valid;
-      hse = hseOf (o .hse);
-      lse = lseOf (o .lse);
-      lsi = lsiOf (o .lsi);
+      hse = hseGiven (o .hse);
+      lse = lseGiven (o .lse);
+      lsi = lsiGiven (o .lsi);
     }
 
 -- the field codes beside them

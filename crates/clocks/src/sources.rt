@@ -4,10 +4,10 @@ use kinds::Hertz;
 use kinds::LSEClock;
 use kinds::Request;
 ghost use mathlib.Core.Path.{_≡_};
-ghost use Rattle.clocks.specs.Derive.{hseOf, lseOf, lsiOf};
+ghost use Rattle.clocks.specs.Derive.{hseGiven, lseGiven, lsiGiven};
 
 pub(crate) fn hse(clock: HSEClock) -> Request
-    ensures { λ r. ⌜ r ≡ hseOf clock ⌝ }
+    ensures { λ r. ⌜ r ≡ hseGiven clock ⌝ }
 {
     match clock {
         HSEClock::Absent => Request::Absent,
@@ -17,7 +17,7 @@ pub(crate) fn hse(clock: HSEClock) -> Request
 }
 
 pub(crate) fn lse(clock: LSEClock) -> Request
-    ensures { λ r. ⌜ r ≡ lseOf clock ⌝ }
+    ensures { λ r. ⌜ r ≡ lseGiven clock ⌝ }
 {
     match clock {
         LSEClock::Absent => Request::Absent,
@@ -27,7 +27,7 @@ pub(crate) fn lse(clock: LSEClock) -> Request
 }
 
 pub(crate) fn lsi(on: bool) -> Request
-    ensures { λ r. ⌜ r ≡ lsiOf on ⌝ }
+    ensures { λ r. ⌜ r ≡ lsiGiven on ⌝ }
 {
     if on {
         Request::At(Hertz(32000))

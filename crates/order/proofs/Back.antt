@@ -17,7 +17,7 @@ use Rattle.kinds.specs.declared.PLLP.the-variants.{Div2, Div4, Div6, Div8}
 use Rattle.pll.specs.Outputs.{baseOf, pOutputOf}
 use Rattle.clocks.specs.Ratio.{ratioUp}
 use Rattle.clocks.specs.Rows.{Row, row, hpreRow, ppreRow}
-use Rattle.clocks.specs.Derive.{timclkOf, sysclkOf, hpreOf, ahbFor, apbFor, ahbOf, apb1Of, apb2Of, hseOf, clocksOf, configOf}
+use Rattle.clocks.specs.Derive.{timclkOf, sysclkOf, hpreOf, ahbFor, apbFor, ahbOf, apb1Of, apb2Of, hseGiven, clocksOf, configOf}
 use Rattle.clocks.specs.declared.Clocks.{Clocks}
 use Rattle.order.specs.Order.{srcOf, pllStored}
 use Rattle.order.specs.Safe.{PllSet, Settled}
@@ -82,7 +82,7 @@ p-back Div6 = refl
 p-back Div8 = refl
 
 -- PLLSRC
-source-back : (h : HSEClock) → cond (eqb (srcOf h) 0) 16000000 (askedHertz (hseOf h)) ≡ inputOf h
+source-back : (h : HSEClock) → cond (eqb (srcOf h) 0) 16000000 (askedHertz (hseGiven h)) ≡ inputOf h
 unfolding inputOf
 source-back Absent = refl
 source-back (Oscillator f) = refl
@@ -90,7 +90,7 @@ source-back (Bypass f) = refl
 
 -- SW: the P output as read, p, counts with `use_pll` alone; a plan with a 48 MHz choice stores the PLL's fields without it too
 switch-back : (on : Bool) (h : HSEClock) (p q : ℕ) → (on ≡ true → p ≡ q)
-    → cond (eqb (cond on 2 (srcOf h)) 0) (baseOf 16000000) (cond (eqb (cond on 2 (srcOf h)) 1) (baseOf (askedHertz (hseOf h))) p) ≡ cond on q (baseOf (inputOf h))
+    → cond (eqb (cond on 2 (srcOf h)) 0) (baseOf 16000000) (cond (eqb (cond on 2 (srcOf h)) 1) (baseOf (askedHertz (hseGiven h))) p) ≡ cond on q (baseOf (inputOf h))
 unfolding inputOf
 switch-back true h p q e = e refl
 switch-back false Absent p q e = refl
@@ -102,17 +102,17 @@ stored : (l : Pll) → l .use_pll ≡ true → pllStored l ≡ true
 stored l e = rw e
 
 module _ (d : CFGR) (f : List ℕ) where
-  p-output-back : PllSet d (configOf d) f → pOutputIn (askedHertz (hseOf (d .sources .hse))) f ≡ pOutputOf d
+  p-output-back : PllSet d (configOf d) f → pOutputIn (askedHertz (hseGiven (d .sources .hse))) f ≡ pOutputOf d
   unfolding pOutputOf
   p-output-back s = rw (s .m, s .n, s .p, s .src, p-back (d .pll .p), source-back (d .sources .hse))
 
-  sysclk-back : Settled d (configOf d) f → sysclkIn (askedHertz (hseOf (d .sources .hse))) f ≡ sysclkOf d
+  sysclk-back : Settled d (configOf d) f → sysclkIn (askedHertz (hseGiven (d .sources .hse))) f ≡ sysclkOf d
   unfolding sysclkIn sysclkOf
   sysclk-back s =
       rw (s .source)
       (switch-back (d .pll .use_pll) (d .sources .hse) _ _ (λ e. p-output-back (s .pll (stored (d .pll) e))))
 
-  hclk-back : Settled d (configOf d) f → hclkIn (askedHertz (hseOf (d .sources .hse))) f ≡ ahbOf d .hclk .0
+  hclk-back : Settled d (configOf d) f → hclkIn (askedHertz (hseGiven (d .sources .hse))) f ≡ ahbOf d .hclk .0
   unfolding hclkIn configOf ahbOf
   hclk-back s = rw (sysclk-back s, s .bus .hpre) (ahb-back (sysclkOf d) (d .requests .hclk))
 

@@ -119,7 +119,7 @@ refused-is-not-0 c n k e z = from (planOf c) (plan-view c) e
     from p (ready a b) h = let y : _≡_ {A = ℕ} 0 1 = cc in omega arith
 
 -- the table gives no number for plan but those of its list
-plan-number : (c : CFGR) (n : ℕ) → PlanRefused c n → OneOf planNumbers n
+pub plan-number : (c : CFGR) (n : ℕ) → PlanRefused c n → OneOf planNumbers n
 plan-number c n (limit r) = wider limitNumbers planNumbers tt n (limit-number c n r)
 plan-number c n (search s g) = tt
 plan-number c n (late {d = d} e x) = wider lateNumbers planNumbers tt n (late-number d n x)

@@ -8,7 +8,7 @@ use native.Mathlib.Nat.{eq-or-lt-of-le}
 use native.Mathlib.Omega.{arith}
 use lib.ListN.{length, getD}
 use borrow.Author.Tests.{ltb-true, lt-ltb, leb-true, le-leb, eqb-true, eq-eqb, not-false}
-use Rattle.record.specs.Numbers.{flagOf, u32At}
+use Rattle.record.specs.Numbers.{flagAt, u32At}
 use Rattle.record.specs.Places.{RECORD}
 use Rattle.record.specs.Layout.{keeps, number, child, layout, blankRun, blanks}
 use Rattle.record.specs.WellFormed.{WellFormed}
@@ -50,16 +50,16 @@ zero-run b at (suc n) h = (
 
 module _ (b : List ℕ) where
   -- a rule on a value whose flag is off, and one on a child bit, as facts
-  off-zero : (flag at : ℕ) → keeps b (number flag at) ≡ true → flagOf b flag ≡ false → u32At b at ≡ 0
+  off-zero : (flag at : ℕ) → keeps b (number flag at) ≡ true → flagAt b flag ≡ false → u32At b at ≡ 0
   off-zero flag at k e = eqb-true _ _ (or-off _ _ k e)
 
-  zero-off : (flag at : ℕ) → (flagOf b flag ≡ false → u32At b at ≡ 0) → keeps b (number flag at) ≡ true
+  zero-off : (flag at : ℕ) → (flagAt b flag ≡ false → u32At b at ≡ 0) → keeps b (number flag at) ≡ true
   zero-off flag at f = off-or _ _ (λ e. eq-eqb _ _ (f e))
 
-  has-parent : (bit parent : ℕ) → keeps b (child bit parent) ≡ true → flagOf b bit ≡ true → flagOf b parent ≡ true
+  has-parent : (bit parent : ℕ) → keeps b (child bit parent) ≡ true → flagAt b bit ≡ true → flagAt b parent ≡ true
   has-parent bit parent k e = or-off _ _ k (ap not e)
 
-  parent-kept : (bit parent : ℕ) → (flagOf b bit ≡ true → flagOf b parent ≡ true) → keeps b (child bit parent) ≡ true
+  parent-kept : (bit parent : ℕ) → (flagAt b bit ≡ true → flagAt b parent ≡ true) → keeps b (child bit parent) ≡ true
   parent-kept bit parent f = off-or _ _ (λ e. f (not-false _ e))
 
   -- every rule of the layout kept: each fact of a well-formed record

@@ -4,7 +4,7 @@ use mathlib.Core.Bool.{Bool, true, false, cond}
 use mathlib.Core.List.{List}
 use lib.ListN.{getD}
 use lib.Dec.{eqb}
-use Rattle.record.specs.Numbers.{u16At, u32At, flagOf}
+use Rattle.record.specs.Numbers.{u16At, u32At, flagAt}
 use Rattle.record.specs.Places.{hseFlag, hseBypassFlag, hclkFlag, sysclkFlag, pclk1Flag, pclk2Flag, lseFlag, lseBypassFlag, lsiFlag, usePllFlag, choice48Flag, choicePllsaiFlag, pllsaiFlag, plli2sFlag}
 use Rattle.record.specs.Places.{mAt, pAt, qAt, pllsaiPAt, pllsaiQAt, plli2sRAt, plli2sQAt, mco1At, mco1preAt, mco2At, mco2preAt, nAt, pllsaiNAt, plli2sNAt, hseAt, hclkAt, sysclkAt, pclk1At, pclk2At}
 use Rattle.kinds.specs.declared.CFGR.{CFGR}
@@ -58,15 +58,15 @@ unfoldable pub mcopreOf : ℕ → MCOPRE
 mcopreOf k = cond (eqb k 0) Div1 (cond (eqb k 1) Div2 (cond (eqb k 2) Div3 (cond (eqb k 3) Div4 Div5)))
 
 -- what is present by its flag, and which by the second flag
-abbrev pub hseOf : Bool → Bool → Hertz → HSEClock
-hseOf true true f = HseBypass f
-hseOf true false f = HseOscillator f
-hseOf false bypass f = NoHse
+abbrev pub hseFrom : Bool → Bool → Hertz → HSEClock
+hseFrom true true f = HseBypass f
+hseFrom true false f = HseOscillator f
+hseFrom false bypass f = NoHse
 
-abbrev pub lseOf : Bool → Bool → LSEClock
-lseOf true true = LseBypass
-lseOf true false = LseOscillator
-lseOf false bypass = NoLse
+abbrev pub lseFrom : Bool → Bool → LSEClock
+lseFrom true true = LseBypass
+lseFrom true false = LseOscillator
+lseFrom false bypass = NoLse
 
 abbrev pub choiceOf : Bool → Bool → Choice48
 choiceOf true true = Pllsai
@@ -74,13 +74,13 @@ choiceOf true false = Pllq
 choiceOf false pllsai = NoChoice
 
 unfoldable pub requestAt : List ℕ → ℕ → ℕ → Request
-requestAt b flag at = cond (flagOf b flag) (At (hertzAt b at)) NoRequest
+requestAt b flag at = cond (flagAt b flag) (At (hertzAt b at)) NoRequest
 
 unfoldable pub sourcesOf : List ℕ → Sources
 sourcesOf b = record {
-  hse = hseOf (flagOf b hseFlag) (flagOf b hseBypassFlag) (hertzAt b hseAt);
-  lse = lseOf (flagOf b lseFlag) (flagOf b lseBypassFlag);
-  lsi = flagOf b lsiFlag;
+  hse = hseFrom (flagAt b hseFlag) (flagAt b hseBypassFlag) (hertzAt b hseAt);
+  lse = lseFrom (flagAt b lseFlag) (flagAt b lseBypassFlag);
+  lsi = flagAt b lsiFlag;
 }
 
 unfoldable pub requestsOf : List ℕ → Requests
@@ -93,8 +93,8 @@ requestsOf b = record {
 
 unfoldable pub pllOf : List ℕ → Pll
 pllOf b = record {
-  use_pll = flagOf b usePllFlag;
-  pll48clk = choiceOf (flagOf b choice48Flag) (flagOf b choicePllsaiFlag);
+  use_pll = flagAt b usePllFlag;
+  pll48clk = choiceOf (flagAt b choice48Flag) (flagAt b choicePllsaiFlag);
   m = dividerAt b mAt;
   n = factorAt b nAt;
   p = pOf (getD b pAt 0);
@@ -103,7 +103,7 @@ pllOf b = record {
 
 unfoldable pub saiOf : List ℕ → Sai
 saiOf b = record {
-  use_pllsai = flagOf b pllsaiFlag;
+  use_pllsai = flagAt b pllsaiFlag;
   n = factorAt b pllsaiNAt;
   p = pOf (getD b pllsaiPAt 0);
   q = dividerAt b pllsaiQAt;
@@ -111,7 +111,7 @@ saiOf b = record {
 
 unfoldable pub i2sOf : List ℕ → I2s
 i2sOf b = record {
-  use_plli2s = flagOf b plli2sFlag;
+  use_plli2s = flagAt b plli2sFlag;
   n = factorAt b plli2sNAt;
   r = dividerAt b plli2sRAt;
   q = dividerAt b plli2sQAt;

@@ -4,7 +4,7 @@ use mathlib.Core.Bool.{Bool, true, false, not, _||_}
 use mathlib.Core.List.{List, [], _∷_, _++_}
 use lib.ListN.{getD}
 use lib.Dec.{eqb, ltb, leb}
-use Rattle.record.specs.Numbers.{u16At, u32At, flagOf}
+use Rattle.record.specs.Numbers.{u16At, u32At, flagAt}
 use Rattle.record.specs.Places.{hseFlag, hseBypassFlag, hclkFlag, sysclkFlag, pclk1Flag, pclk2Flag, lseFlag, lseBypassFlag, choice48Flag, choicePllsaiFlag}
 use Rattle.record.specs.Places.{RECORD, pAt, pllsaiPAt, mco1At, mco1preAt, mco2At, mco2preAt, hseAt, hclkAt, sysclkAt, pclk1At, pclk2At}
 use Rattle.record.specs.declared.Fault.{Fault}
@@ -66,10 +66,10 @@ layout = flagRules ++ byteRules ++ numberRules ++ blanks 40 RECORD
 -- whether the bytes keep a rule
 abbrev pub keeps : List ℕ → Rule → Bool
 keeps b reserved-bits = ltb (u16At b 0) 16384
-keeps b (child bit parent) = not (flagOf b bit) || flagOf b parent
+keeps b (child bit parent) = not (flagAt b bit) || flagAt b parent
 keeps b (code at last) = leb (getD b at 0) last
 keeps b (blank at) = eqb (getD b at 0) 0
-keeps b (number flag at) = flagOf b flag || eqb (u32At b at) 0
+keeps b (number flag at) = flagAt b flag || eqb (u32At b at) 0
 
 -- the offset of a rule: that of its number's first byte
 abbrev pub offsetOf : Rule → ℕ

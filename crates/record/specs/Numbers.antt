@@ -12,5 +12,5 @@ unfoldable pub u32At : List ℕ → ℕ → ℕ
 u32At b at = u16At b at + 65536 * u16At b (at + 2)
 
 -- whether the flag whose bit has this value, a power of two, is on in the u16 at byte 0
-unfoldable pub flagOf : List ℕ → ℕ → Bool
-flagOf b value = eqb (u16At b 0 / value % 2) 1
+unfoldable pub flagAt : List ℕ → ℕ → Bool
+flagAt b value = eqb (u16At b 0 / value % 2) 1

@@ -4,7 +4,7 @@ use mathlib.Core.Path.{_≡_}
 use mathlib.Core.Bool.{true, false}
 use mathlib.Core.List.{List}
 use lib.ListN.{length, getD}
-use Rattle.record.specs.Numbers.{u16At, u32At, flagOf}
+use Rattle.record.specs.Numbers.{u16At, u32At, flagAt}
 use Rattle.record.specs.Places.{hseFlag, hseBypassFlag, hclkFlag, sysclkFlag, pclk1Flag, pclk2Flag, lseFlag, lseBypassFlag, choice48Flag, choicePllsaiFlag}
 use Rattle.record.specs.Places.{RECORD, pAt, pllsaiPAt, mco1At, mco1preAt, mco2At, mco2preAt, hseAt, hclkAt, sysclkAt, pclk1At, pclk2At}
 
@@ -24,12 +24,12 @@ pub record WellFormed (b : List ℕ) : Type 0 where
   pub mco2-code : getD b mco2At 0 ≤ 3
   pub mco2pre-code : getD b mco2preAt 0 ≤ 4
   -- a u32 whose flag is off is zero
-  pub hse-off : flagOf b hseFlag ≡ false → u32At b hseAt ≡ 0
-  pub hclk-off : flagOf b hclkFlag ≡ false → u32At b hclkAt ≡ 0
-  pub sysclk-off : flagOf b sysclkFlag ≡ false → u32At b sysclkAt ≡ 0
-  pub pclk1-off : flagOf b pclk1Flag ≡ false → u32At b pclk1At ≡ 0
-  pub pclk2-off : flagOf b pclk2Flag ≡ false → u32At b pclk2At ≡ 0
+  pub hse-off : flagAt b hseFlag ≡ false → u32At b hseAt ≡ 0
+  pub hclk-off : flagAt b hclkFlag ≡ false → u32At b hclkAt ≡ 0
+  pub sysclk-off : flagAt b sysclkFlag ≡ false → u32At b sysclkAt ≡ 0
+  pub pclk1-off : flagAt b pclk1Flag ≡ false → u32At b pclk1At ≡ 0
+  pub pclk2-off : flagAt b pclk2Flag ≡ false → u32At b pclk2At ≡ 0
   -- a bypass or PLLSAI-choice bit needs its parent
-  pub hse-bypass : flagOf b hseBypassFlag ≡ true → flagOf b hseFlag ≡ true
-  pub lse-bypass : flagOf b lseBypassFlag ≡ true → flagOf b lseFlag ≡ true
-  pub choice-pllsai : flagOf b choicePllsaiFlag ≡ true → flagOf b choice48Flag ≡ true
+  pub hse-bypass : flagAt b hseBypassFlag ≡ true → flagAt b hseFlag ≡ true
+  pub lse-bypass : flagAt b lseBypassFlag ≡ true → flagAt b lseFlag ≡ true
+  pub choice-pllsai : flagAt b choicePllsaiFlag ≡ true → flagAt b choice48Flag ≡ true

@@ -98,8 +98,8 @@ fn mcopre_of(code: u8) -> MCOPRE
 }
 
 // The first flag says whether a clock or choice is there, the second which.
-fn hse_of(present: bool, bypass: bool, freq: Hertz) -> HSEClock
-    ensures { λ r. ⌜ r ≡ spec.hseOf present bypass freq ⌝ }
+fn hse_from(present: bool, bypass: bool, freq: Hertz) -> HSEClock
+    ensures { λ r. ⌜ r ≡ spec.hseFrom present bypass freq ⌝ }
 {
     if present {
         if bypass {
@@ -112,8 +112,8 @@ fn hse_of(present: bool, bypass: bool, freq: Hertz) -> HSEClock
     }
 }
 
-fn lse_of(present: bool, bypass: bool) -> LSEClock
-    ensures { λ r. ⌜ r ≡ spec.lseOf present bypass ⌝ }
+fn lse_from(present: bool, bypass: bool) -> LSEClock
+    ensures { λ r. ⌜ r ≡ spec.lseFrom present bypass ⌝ }
 {
     if present {
         if bypass {
@@ -158,12 +158,12 @@ fn sources_at(bytes: &[u8]) -> Sources
     ensures { λ r. ⌜ r ≡ spec.sourcesOf (now (bytes .entry)) ⌝ }
 {
     let freq = hertz_at(bytes, offsets::HSE);
-    let hse = hse_of(
+    let hse = hse_from(
         flag(bytes, flags::HSE),
         flag(bytes, flags::HSE_BYPASS),
         freq,
     );
-    let lse = lse_of(flag(bytes, flags::LSE), flag(bytes, flags::LSE_BYPASS));
+    let lse = lse_from(flag(bytes, flags::LSE), flag(bytes, flags::LSE_BYPASS));
     let lsi = flag(bytes, flags::LSI);
     Sources { hse, lse, lsi }
 }

@@ -3,7 +3,7 @@ use super::offsets;
 ghost use mathlib.Core.Path.{_≡_};
 ghost use Prim.Native.Nat.{_+_, _<_, _≤_};
 ghost use lib.ListN.{length, getD};
-ghost use Rattle.record.specs.Numbers.{u16At, u32At, flagOf};
+ghost use Rattle.record.specs.Numbers.{u16At, u32At, flagAt};
 
 pub(crate) fn byte(bytes: &[u8], at: usize) -> u8
     requires { ⌜ at < length (now bytes) ⌝ }
@@ -33,7 +33,7 @@ pub(crate) fn u32_at(bytes: &[u8], at: usize) -> u32
 // Whether the flag whose bit has this value is on.
 pub(crate) fn flag(bytes: &[u8], value: u16) -> bool
     requires { ⌜ (0 < value) × (2 ≤ length (now bytes)) ⌝ }
-    ensures { λ r. ⌜ r ≡ flagOf (now (bytes .entry)) value ⌝ }
+    ensures { λ r. ⌜ r ≡ flagAt (now (bytes .entry)) value ⌝ }
 {
     u16_at(bytes, offsets::FLAGS) / value % 2 == 1
 }

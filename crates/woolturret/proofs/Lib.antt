@@ -6,3 +6,4 @@ pub mod Copying
 pub mod Starting
 pub mod Untouched
 pub mod Ordered
+pub mod InTurn

@@ -25,7 +25,7 @@ use Rattle.woolturret.specs.Starts.{startedReply, refusedReply, placedRe
 
 module _ (file : List ℕ) (lim : ℕ) (xs : List ℕ) (cut : ℕ) (clocks : List ℕ) where
   -- the number after the limit's
-  abbrev numbered : Reading → ℕ
+  abbrev pub numbered : Reading → ℕ
   numbered z = readReply z file lim xs cut clocks .report .refusal
 
   -- what is 14 after it
@@ -33,7 +33,7 @@ module _ (file : List ℕ) (lim : ℕ) (xs : List ℕ) (cut : ℕ) (clocks : Lis
   Bad z = ((fault : Fault) × (z ≡ Malformed fault)) ⊎ (length file ≡ PLACES → ⊥)
 
   -- by the limit
-  by-limit : (z : Reading) (P : ℕ → Type 0) → (Between 1 65535 lim → P (numbered z)) → (Outside 1 65535 lim → P 13) → P (startReply z file lim xs cut clocks .report .refusal)
+  pub by-limit : (z : Reading) (P : ℕ → Type 0) → (Between 1 65535 lim → P (numbered z)) → (Outside 1 65535 lim → P 13) → P (startReply z file lim xs cut clocks .report .refusal)
   unfolding startReply
   by-limit z P within without = from (limitOf lim) (outside-told 1 65535 13 lim)
     where
@@ -42,7 +42,7 @@ module _ (file : List ℕ) (lim : ℕ) (xs : List ℕ) (cut : ℕ) (clocks : Lis
       from n (broken o b) = without o
 
   -- by the record and the places of the file
-  by-places : (c : CFGR) (P : ℕ → Type 0) → (length file ≡ PLACES → P (outcomeNumber (startOf c file lim xs cut .outcome))) → ((length file ≡ PLACES → ⊥) → P 14) → P (numbered (Config c))
+  pub by-places : (c : CFGR) (P : ℕ → Type 0) → (length file ≡ PLACES → P (outcomeNumber (startOf c file lim xs cut .outcome))) → ((length file ≡ PLACES → ⊥) → P 14) → P (numbered (Config c))
   unfolding placedReply
   by-places c P whole other = from (eqb (length file) PLACES) refl
     where

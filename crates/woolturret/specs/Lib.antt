@@ -3,3 +3,4 @@ pub mod Replies
 pub mod Plans
 pub mod Lines
 pub mod Starts
+pub mod Refusals

@@ -1,5 +1,5 @@
 -- `flag` says whether the bit is set: by what the u16 at byte 0 is.
-use Rattle.record.specs.Numbers.{flagOf}
+use Rattle.record.specs.Numbers.{flagAt}
 use borrow.Author.Needs.{needs}
 use Rattle.record.proofs.numbers.flag.Statement.{statement}
 use Rattle.record.proofs.numbers.flag.Tie as tie
@@ -11,7 +11,7 @@ div-result : tie.Need-div-result
 div-result c = search needs
 
 returns : tie.Need-returns
-unfolding flagOf
+unfolding flagAt
 returns c = rw (c .u16-at .ensures)
 
 pub flag-spec : {M : Type 1} → statement M
