@@ -102,11 +102,7 @@ fn pllsrc(hse: HSEClock) -> u32
 pub fn sw(hse: HSEClock, pll: Pll) -> u32
     ensures { λ r. ⌜ r ≡ swOf hse pll ⌝ }
 {
-    if pll.use_pll {
-        2
-    } else {
-        pllsrc(hse)
-    }
+    if pll.use_pll { 2 } else { pllsrc(hse) }
 }
 
 // Whether a 48 MHz clock is chosen.
