@@ -54,27 +54,30 @@ module _ (P : List Op → List (ℕ × ℕ) → Type 0) (none : P [] []) where
   pub i2s-kinds : (i : I2s) → P (put (plli2scfgr i) ∷ one PLLI2SON 1 ∷ []) (plli2scfgr i ++ (PLLI2SON, 1) ∷ []) → P (i2sOps i) (i2sFields i)
   i2s-kinds i on = when (i .use_plli2s) _ _ on
 
--- what is so of no store at all, of each section in each of its kinds, and of two lists joined where it is so of both, is so of a whole list
-module _ (Q : List Op → Type 0) (none : Q []) (join : (a b : List Op) → Q a → Q b → Q (a ++ b)) (d : CFGR) (y : InternalRCCConfig) where
+-- what is so of each section of a plan's list, in each of its kinds
+pub record Sections (Q : List Op → Type 0) (d : CFGR) (y : InternalRCCConfig) : Type 0 where
+  pub hsi : Q hsiOps
+  pub hse : (v : ℕ) → Q (crystalOps HSEBYP HSEON 2 v)
+  pub pll : (o : Bool) → Q (pllOn (d .sources .hse) (d .pll) (y .«vos_scale») ++ overOps o)
+  pub lse : (v : ℕ) → Q (crystalOps LSEBYP LSEON 6 v)
+  pub lsi : Q (one LSION 1 ∷ wait 7 ∷ [])
+  pub sai : Q (put (pllsaicfgr (d .sai)) ∷ one PLLSAION 1 ∷ [])
+  pub choice : (v : ℕ) → Q (one CK48MSEL v ∷ [])
+  pub i2s : Q (put (plli2scfgr (d .i2s)) ∷ one PLLI2SON 1 ∷ [])
+  pub last : Q (lastOps (d .mco) y (swOf (d .sources .hse) (d .pll)))
+
+-- and of no store at all, and of two lists joined where it is so of both, is so of the whole list
+module _ (Q : List Op → Type 0) (none : Q []) (join : (a b : List Op) → Q a → Q b → Q (a ++ b)) where
   abbrev part : List Op → List (ℕ × ℕ) → Type 0
   part os F = Q os
 
-  pub list-by : Q hsiOps
-      → ((v : ℕ) → Q (crystalOps HSEBYP HSEON 2 v))
-      → ((o : Bool) → Q (pllOn (d .sources .hse) (d .pll) (y .«vos_scale») ++ overOps o))
-      → ((v : ℕ) → Q (crystalOps LSEBYP LSEON 6 v))
-      → Q (one LSION 1 ∷ wait 7 ∷ [])
-      → Q (put (pllsaicfgr (d .sai)) ∷ one PLLSAION 1 ∷ [])
-      → ((v : ℕ) → Q (one CK48MSEL v ∷ []))
-      → Q (put (plli2scfgr (d .i2s)) ∷ one PLLI2SON 1 ∷ [])
-      → Q (lastOps (d .mco) y (swOf (d .sources .hse) (d .pll)))
-      → Q (opsOf d y)
-  list-by hsi hse pll lse lsi sai choice i2s last =
-      join _ _ (join _ _ (join _ _ (join _ _ (join _ _ (join _ _ (join _ _ (join _ _ hsi
-      (hse-kinds part none hse (d .sources .hse)))
-      (pll-kinds part none (d .sources .hse) (d .pll) y pll))
-      (lse-kinds part none lse (d .sources .lse)))
-      (lsi-kinds part none lsi (d .sources .lsi)))
-      (sai-kinds part none (d .sai) sai))
-      (choice-kinds part none choice (d .pll .pll48clk)))
-      (i2s-kinds part none (d .i2s) i2s)) last
+  pub list-by : (d : CFGR) (y : InternalRCCConfig) → Sections Q d y → Q (opsOf d y)
+  list-by d y s =
+      join hsiOps _ (s .hsi)
+      (join _ _ (hse-kinds part none (s .hse) (d .sources .hse))
+      (join _ _ (pll-kinds part none (d .sources .hse) (d .pll) y (s .pll))
+      (join _ _ (lse-kinds part none (s .lse) (d .sources .lse))
+      (join _ _ (lsi-kinds part none (s .lsi) (d .sources .lsi))
+      (join _ _ (sai-kinds part none (d .sai) (s .sai))
+      (join _ _ (choice-kinds part none (s .choice) (d .pll .pll48clk))
+      (join _ _ (i2s-kinds part none (d .i2s) (s .i2s)) (s .last))))))))

@@ -40,12 +40,27 @@ calm-both (ws ∷ a) b s h k =
     calm-step (cond (touches ws) (eqb s 0) true) (calm (look PLLON ws s) a) (calm (look PLLON ws s) (a ++ b))
     (λ (g : calm (look PLLON ws s) a ≡ true). calm-both a b (look PLLON ws s) g k) h
 
+calm-lists : (a b : List Op) → Calm a → Calm b → Calm (a ++ b)
+calm-lists a b h k = record { is = λ s. rw (stores-both a b) (calm-both (storesOf a) (storesOf b) s (h .is s) (k .is)) }
+
 list-calm : (d : CFGR) (y : InternalRCCConfig) → Calm (opsOf d y)
-list-calm d y = list-by Calm record { is = λ s. refl } (λ a b h k. record { is = λ s. rw (stores-both a b) (calm-both (storesOf a) (storesOf b) s (h .is s) (k .is)) }) d y record { is = λ s. refl } (λ v. record { is = λ s. refl }) over (λ v. record { is = λ s. refl }) record { is = λ s. refl } record { is = λ s. refl } (λ v. record { is = λ s. refl }) record { is = λ s. refl } record { is = λ s. refl }
+list-calm d y =
+    list-by Calm (record { is = λ s. refl }) calm-lists d y
+    record {
+      hsi = record { is = λ s. refl };
+      hse = λ v. record { is = λ s. refl };
+      pll = stored;
+      lse = λ v. record { is = λ s. refl };
+      lsi = record { is = λ s. refl };
+      sai = record { is = λ s. refl };
+      choice = λ v. record { is = λ s. refl };
+      i2s = record { is = λ s. refl };
+      last = record { is = λ s. refl };
+    }
   where
-    over : (o : Bool) → Calm (pllOn (d .sources .hse) (d .pll) (y .«vos_scale») ++ overOps o)
-    over true = record { is = λ s. refl }
-    over false = record { is = λ s. refl }
+    stored : (o : Bool) → Calm (pllOn (d .sources .hse) (d .pll) (y .«vos_scale») ++ overOps o)
+    stored true = record { is = λ s. refl }
+    stored false = record { is = λ s. refl }
 
 untouched-pll : (f : List ℕ) (ws : Store) → touches ws ≡ false → SamePll f (writes f ws)
 untouched-pll f ws h =

@@ -1,4 +1,4 @@
--- How many stores and waits a plan's list has, counted section by section, and how it begins.
+-- A plan's list has no fewer stores and waits than its first and last section, and no more than the list with everything in it.
 use Prim.Native.Nat.{ℕ, suc, _+_, _≤_}
 use native.Mathlib.Omega.{arith}
 use native.Mathlib.Nat.{zero-add, suc-add}
@@ -9,99 +9,129 @@ use lib.ListN.{length, length-append}
 use Rattle.kinds.specs.declared.CFGR.{CFGR}
 use Rattle.kinds.specs.declared.HSEClock.{HSEClock}
 use Rattle.kinds.specs.declared.LSEClock.{LSEClock}
+use Rattle.kinds.specs.declared.LSEClock.the-variants.{Oscillator}
 use Rattle.kinds.specs.declared.Choice48.{Choice48}
+use Rattle.kinds.specs.declared.Choice48.the-variants.{Pllq}
 use Rattle.kinds.specs.declared.Pll.{Pll}
 use Rattle.kinds.specs.declared.Sai.{Sai}
 use Rattle.kinds.specs.declared.I2s.{I2s}
-use Rattle.kinds.specs.declared.Mco.{Mco}
 use Rattle.clocks.specs.declared.InternalRCCConfig.{InternalRCCConfig}
-use Rattle.order.specs.Places.{HSION, SW}
-use Rattle.order.specs.Order.{Op, put, wait, one, hsiOps, hseOps, pllOn, overOps, pllOps, lseOps, lsiOps, saiOps, choiceOps, i2sOps, swOf, lastOps, opsOf, storesOf, waits}
+use Rattle.order.specs.Places.{HSION, HSEBYP, HSEON, PLLSAION, PLLI2SON, SW}
+use Rattle.order.specs.Order.{Op, put, wait, one, hsiOps, crystalOps, hseOps, pllOn, overOps, pllOps, lseOps, lsiOps, pllsaicfgr, saiOps, choiceOps, plli2scfgr, i2sOps, swOf, lastOps, opsOf, STORES, WAITS, storesOf, waits}
 use Rattle.order.proofs.Looks.{stores-both}
 use Rattle.order.proofs.ByKind.{hse-kinds, pll-kinds, lse-kinds, lsi-kinds, sai-kinds, choice-kinds, i2s-kinds}
 
--- s to t stores and w to v waits
-record Counts (s t w v : ℕ) (os : List Op) : Type 0 where
-  stores : (s ≤ length (storesOf os)) × (length (storesOf os) ≤ t)
-  waited : (w ≤ waits os) × (waits os ≤ v)
+-- no fewer stores and waits than the list a has, and no more than b
+record Counts (a b os : List Op) : Type 0 where
+  least-stores : length (storesOf a) ≤ length (storesOf os)
+  most-stores : length (storesOf os) ≤ length (storesOf b)
+  least-waits : waits a ≤ waits os
+  most-waits : waits os ≤ waits b
 
-few : {t v : ℕ} {os : List Op} → length (storesOf os) ≤ t → waits os ≤ v → Counts 0 t 0 v os
-few h k = record { stores = (omega arith, h); waited = (omega arith, k) }
+-- of a section that is always there
+always : (os : List Op) → Counts os os os
+always os = record { least-stores = omega arith; most-stores = omega arith; least-waits = omega arith; most-waits = omega arith }
 
--- of a section that may be absent
-abbrev Few : ℕ → ℕ → List Op → List (ℕ × ℕ) → Type 0
-Few t v os F = Counts 0 t 0 v os
+-- of one that may be absent, b being the section where it is there
+abbrev AtMost : List Op → List Op → List (ℕ × ℕ) → Type 0
+AtMost b os F = Counts [] b os
 
-nothing : {t v : ℕ} → Counts 0 t 0 v []
+few : {b os : List Op} → length (storesOf os) ≤ length (storesOf b) → waits os ≤ waits b → Counts [] b os
+few h k = record { least-stores = omega arith; most-stores = h; least-waits = omega arith; most-waits = k }
+
+nothing : {b : List Op} → Counts [] b []
 nothing = few (omega arith) (omega arith)
 
-waits-both : (a b : List Op) → waits (a ++ b) ≡ waits a + waits b
+-- ---- two lists joined
+stores-sum : (a b : List Op) → length (storesOf (a ++ b)) ≡ length (storesOf a) + length (storesOf b)
+stores-sum a b = ap length (stores-both a b) ∙ length-append (storesOf a) (storesOf b)
+
+pub waits-both : (a b : List Op) → waits (a ++ b) ≡ waits a + waits b
 waits-both [] b = sym (zero-add (waits b))
 waits-both (put ws ∷ a) b = waits-both a b
 waits-both (wait k ∷ a) b = ap suc (waits-both a b) ∙ sym (suc-add (waits a) (waits b))
 
-_also_ : {a b : List Op} {s t w v s' t' w' v' : ℕ} → Counts s t w v a → Counts s' t' w' v' b → Counts (s + s') (t + t') (w + w') (v + v') (a ++ b)
-_also_ {a} {b} x y =
-    let c : length (storesOf (a ++ b)) ≡ length (storesOf a) + length (storesOf b) = ap length (stores-both a b) ∙ length-append (storesOf a) (storesOf b) in
-    let d = waits-both a b in
+-- no less and no more, added up
+sum-le : {a b c x y z : ℕ} → a ≡ b + c → x ≡ y + z → b ≤ y → c ≤ z → a ≤ x
+sum-le e f h k = omega arith
+
+_also_ : {a b os c e ps : List Op} → Counts a b os → Counts c e ps → Counts (a ++ c) (b ++ e) (os ++ ps)
+_also_ {a} {b} {os} {c} {e} {ps} x y =
     record {
-      stores = (omega (arith, x .stores, y .stores), omega (arith, x .stores, y .stores));
-      waited = (omega (arith, x .waited, y .waited), omega (arith, x .waited, y .waited));
+      least-stores = sum-le (stores-sum a c) (stores-sum os ps) (x .least-stores) (y .least-stores);
+      most-stores = sum-le (stores-sum os ps) (stores-sum b e) (x .most-stores) (y .most-stores);
+      least-waits = sum-le (waits-both a c) (waits-both os ps) (x .least-waits) (y .least-waits);
+      most-waits = sum-le (waits-both os ps) (waits-both b e) (x .most-waits) (y .most-waits);
     }
 
-hsi-few : Counts 2 2 1 1 hsiOps
-hsi-few = record { stores = (omega arith, omega arith); waited = (omega arith, omega arith) }
+-- ---- the sections
+module _ (d : CFGR) (y : InternalRCCConfig) where
+  abbrev last : List Op
+  last = lastOps (d .mco) y (swOf (d .sources .hse) (d .pll))
 
-hse-few : (h : HSEClock) → Counts 0 2 0 1 (hseOps h)
-hse-few = hse-kinds (Few 2 1) nothing (λ v. few (omega arith) (omega arith))
+  -- with everything in it: the sections that may be absent
+  abbrev hseMost : List Op
+  hseMost = crystalOps HSEBYP HSEON 2 0
 
-pll-few : (h : HSEClock) (l : Pll) (y : InternalRCCConfig) → Counts 0 7 0 3 (pllOps h l y)
-pll-few h l y = pll-kinds (Few 7 3) nothing h l y stored where
-  stored : (o : Bool) → Counts 0 7 0 3 (pllOn h l (y .«vos_scale») ++ overOps o)
-  stored true = few (omega arith) (omega arith)
-  stored false = few (omega arith) (omega arith)
+  abbrev pllMost : List Op
+  pllMost = pllOn (d .sources .hse) (d .pll) (y .«vos_scale») ++ overOps true
 
-lse-few : (h : LSEClock) → Counts 0 2 0 1 (lseOps h)
-lse-few = lse-kinds (Few 2 1) nothing (λ v. few (omega arith) (omega arith))
+  abbrev saiMost : List Op
+  saiMost = put (pllsaicfgr (d .sai)) ∷ one PLLSAION 1 ∷ []
 
-lsi-few : (b : Bool) → Counts 0 1 0 1 (lsiOps b)
-lsi-few = lsi-kinds (Few 1 1) nothing (few (omega arith) (omega arith))
+  abbrev i2sMost : List Op
+  i2sMost = put (plli2scfgr (d .i2s)) ∷ one PLLI2SON 1 ∷ []
 
-sai-few : (a : Sai) → Counts 0 2 0 0 (saiOps a)
-sai-few a = sai-kinds (Few 2 0) nothing a (few (omega arith) (omega arith))
+  hse-few : (h : HSEClock) → Counts [] hseMost (hseOps h)
+  hse-few = hse-kinds (AtMost hseMost) nothing (λ v. few (omega arith) (omega arith))
 
-choice-few : (k : Choice48) → Counts 0 1 0 0 (choiceOps k)
-choice-few = choice-kinds (Few 1 0) nothing (λ v. few (omega arith) (omega arith))
+  pll-few : Counts [] pllMost (pllOps (d .sources .hse) (d .pll) y)
+  pll-few = pll-kinds (AtMost pllMost) nothing (d .sources .hse) (d .pll) y stored
+    where
+      stored : (o : Bool) → Counts [] pllMost (pllOn (d .sources .hse) (d .pll) (y .«vos_scale») ++ overOps o)
+      stored true = few (omega arith) (omega arith)
+      stored false = few (omega arith) (omega arith)
 
-i2s-few : (i : I2s) → Counts 0 2 0 0 (i2sOps i)
-i2s-few i = i2s-kinds (Few 2 0) nothing i (few (omega arith) (omega arith))
+  lse-few : (h : LSEClock) → Counts [] (lseOps Oscillator) (lseOps h)
+  lse-few = lse-kinds (AtMost (lseOps Oscillator)) nothing (λ v. few (omega arith) (omega arith))
 
-last-few : (o : Mco) (y : InternalRCCConfig) (sw : ℕ) → Counts 4 4 1 1 (lastOps o y sw)
-last-few o y sw = record { stores = (omega arith, omega arith); waited = (omega arith, omega arith) }
+  lsi-few : (b : Bool) → Counts [] (lsiOps true) (lsiOps b)
+  lsi-few = lsi-kinds (AtMost (lsiOps true)) nothing (few (omega arith) (omega arith))
 
-list-counts : (d : CFGR) (y : InternalRCCConfig) → Counts 6 23 2 8 (opsOf d y)
-list-counts d y =
-    _also_ (_also_ (_also_ (_also_ (_also_ (_also_ (_also_ (_also_ hsi-few
-    (hse-few (d .sources .hse)))
-    (pll-few (d .sources .hse) (d .pll) y))
-    (lse-few (d .sources .lse)))
-    (lsi-few (d .sources .lsi)))
-    (sai-few (d .sai)))
-    (choice-few (d .pll .pll48clk)))
-    (i2s-few (d .i2s)))
-    (last-few (d .mco) y (swOf (d .sources .hse) (d .pll)))
+  sai-few : Counts [] saiMost (saiOps (d .sai))
+  sai-few = sai-kinds (AtMost saiMost) nothing (d .sai) (few (omega arith) (omega arith))
 
-pub stores-few : (d : CFGR) (y : InternalRCCConfig) → length (storesOf (opsOf d y)) ≤ 23
-stores-few d y = list-counts d y .stores .1
+  choice-few : (k : Choice48) → Counts [] (choiceOps Pllq) (choiceOps k)
+  choice-few = choice-kinds (AtMost (choiceOps Pllq)) nothing (λ v. few (omega arith) (omega arith))
 
-pub waits-few : (d : CFGR) (y : InternalRCCConfig) → waits (opsOf d y) ≤ 8
-waits-few d y = list-counts d y .waited .1
+  i2s-few : Counts [] i2sMost (i2sOps (d .i2s))
+  i2s-few = i2s-kinds (AtMost i2sMost) nothing (d .i2s) (few (omega arith) (omega arith))
 
-pub stores-least : (d : CFGR) (y : InternalRCCConfig) → 6 ≤ length (storesOf (opsOf d y))
-stores-least d y = list-counts d y .stores .0
+  abbrev most : List Op
+  most = hsiOps ++ (hseMost ++ (pllMost ++ (lseOps Oscillator ++ (lsiOps true ++ (saiMost ++ (choiceOps Pllq ++ (i2sMost ++ last)))))))
 
-pub waits-least : (d : CFGR) (y : InternalRCCConfig) → 2 ≤ waits (opsOf d y)
-waits-least d y = list-counts d y .waited .0
+  list-counts : Counts (hsiOps ++ last) most (opsOf d y)
+  list-counts =
+      let i2s = _also_ i2s-few (always last) in
+      let choice = _also_ (choice-few (d .pll .pll48clk)) i2s in
+      let sai = _also_ sai-few choice in
+      let lsi = _also_ (lsi-few (d .sources .lsi)) sai in
+      let lse = _also_ (lse-few (d .sources .lse)) lsi in
+      let pll = _also_ pll-few lse in
+      let hse = _also_ (hse-few (d .sources .hse)) pll in
+      _also_ (always hsiOps) hse
+
+  pub stores-few : length (storesOf (opsOf d y)) ≤ STORES
+  stores-few = list-counts .most-stores
+
+  pub waits-few : waits (opsOf d y) ≤ WAITS
+  waits-few = list-counts .most-waits
+
+  pub stores-least : 6 ≤ length (storesOf (opsOf d y))
+  stores-least = list-counts .least-stores
+
+  pub waits-least : 2 ≤ waits (opsOf d y)
+  waits-least = list-counts .least-waits
 
 -- HSION, HSI's wait, SW = HSI: so at least two stores come before any other wait
 begins : (rest a b : List Op) (v w k : ℕ) → one v 1 ∷ wait 1 ∷ one w 0 ∷ rest ≡ a ++ wait k ∷ b → (k ≡ 1 → ⊥) → 2 ≤ length (storesOf a)

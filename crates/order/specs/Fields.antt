@@ -69,15 +69,15 @@ lastFields o y sw = mcoFields o ++ acr y ++ prescalers y ++ (SW, sw) ∷ []
 -- d is the configuration as planned, y its field codes
 abbrev pub fieldsOf : CFGR → InternalRCCConfig → List (ℕ × ℕ)
 fieldsOf d y =
-    (((((((hsiFields
-    ++ hseFields (d .sources .hse))
-    ++ pllFields (d .sources .hse) (d .pll) y)
-    ++ lseFields (d .sources .lse))
-    ++ lsiFields (d .sources .lsi))
-    ++ saiFields (d .sai))
-    ++ choiceFields (d .pll .pll48clk))
-    ++ i2sFields (d .i2s))
-    ++ lastFields (d .mco) y (swOf (d .sources .hse) (d .pll))
+    hsiFields
+    ++ (hseFields (d .sources .hse)
+    ++ (pllFields (d .sources .hse) (d .pll) y
+    ++ (lseFields (d .sources .lse)
+    ++ (lsiFields (d .sources .lsi)
+    ++ (saiFields (d .sai)
+    ++ (choiceFields (d .pll .pll48clk)
+    ++ (i2sFields (d .i2s)
+    ++ lastFields (d .mco) y (swOf (d .sources .hse) (d .pll)))))))))
 
 -- whether the place q is among the fields
 abbrev pub names : ℕ → List (ℕ × ℕ) → Bool

@@ -120,17 +120,27 @@ swOf h l = cond (l .use_pll) 2 (srcOf h)
 abbrev pub lastOps : Mco → InternalRCCConfig → ℕ → List Op
 lastOps o y sw = put (mcoFields o) ∷ put (acr y) ∷ put (prescalers y) ∷ one SW sw ∷ wait 8 ∷ []
 
+-- what follows the switch to HSI
+abbrev pub restOps : CFGR → InternalRCCConfig → List Op
+restOps d y =
+    hseOps (d .sources .hse)
+    ++ (pllOps (d .sources .hse) (d .pll) y
+    ++ (lseOps (d .sources .lse)
+    ++ (lsiOps (d .sources .lsi)
+    ++ (saiOps (d .sai)
+    ++ (choiceOps (d .pll .pll48clk)
+    ++ (i2sOps (d .i2s)
+    ++ lastOps (d .mco) y (swOf (d .sources .hse) (d .pll))))))))
+
 abbrev pub opsOf : CFGR → InternalRCCConfig → List Op
-opsOf d y =
-    (((((((hsiOps
-    ++ hseOps (d .sources .hse))
-    ++ pllOps (d .sources .hse) (d .pll) y)
-    ++ lseOps (d .sources .lse))
-    ++ lsiOps (d .sources .lsi))
-    ++ saiOps (d .sai))
-    ++ choiceOps (d .pll .pll48clk))
-    ++ i2sOps (d .i2s))
-    ++ lastOps (d .mco) y (swOf (d .sources .hse) (d .pll))
+opsOf d y = hsiOps ++ restOps d y
+
+-- the most stores and the most waits that a plan's list has; a wait's number is one of 1 to WAITS
+abbrev pub STORES : ℕ
+STORES = 23
+
+abbrev pub WAITS : ℕ
+WAITS = 8
 
 -- the stores of a list, and how many waits it has
 abbrev pub storesOf : List Op → List (List (ℕ × ℕ))

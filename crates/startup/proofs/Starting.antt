@@ -19,8 +19,8 @@ pub start-refused : {p q : Planned} {f : List ℕ} (lim : ℕ) (xs : List ℕ) (
 unfolding plannedStart
 start-refused {f = f} lim xs cut e g h = h ∙ ap (λ (t : Planned). plannedStart t f lim xs cut) (sym g ∙ e)
 
-pub start-ready : {p q : Planned} {f : List ℕ} {lim : ℕ} {xs : List ℕ} {cut k : ℕ} {d : CFGR} {x : Clocks} {y : InternalRCCConfig} {m : Machine} {r : Started} {n : ℕ}
-    → q ≡ p → q ≡ Ready d k x y → Ran xs lim (beginOf f cut) (opsOf d y) n m → r ≡ endedOf x y m → r ≡ plannedStart p f lim xs cut
+pub start-ready : {p q : Planned} {f : List ℕ} {lim : ℕ} {xs : List ℕ} {cut k : ℕ} {d : CFGR} {x : Clocks} {y : InternalRCCConfig} {m : Machine} {r : Started}
+    → q ≡ p → q ≡ Ready d k x y → Ran xs lim (beginOf f cut) (opsOf d y) m → r ≡ endedOf x y m → r ≡ plannedStart p f lim xs cut
 unfolding plannedStart
 start-ready {f = f} {lim = lim} {xs = xs} {cut = cut} {d = d} {x = x} {y = y} e g w h =
     h ∙ ap (endedOf x y) (w .is) ∙ walks xs lim x y (opsOf d y) f cut (ops-numbered d y .is) ∙ ap (λ (t : Planned). plannedStart t f lim xs cut) (sym g ∙ e)

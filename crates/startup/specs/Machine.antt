@@ -9,7 +9,7 @@ use lib.ListN.{length, getD}
 use Rattle.clocks.specs.declared.Clocks.{Clocks}
 use Rattle.clocks.specs.declared.InternalRCCConfig.{InternalRCCConfig}
 use Rattle.order.specs.Files.{writes}
-use Rattle.order.specs.Order.{Op, put, wait}
+use Rattle.order.specs.Order.{Op, put, wait, waits}
 use Rattle.startup.specs.declared.machine.Machine.{Machine}
 use Rattle.startup.specs.declared.machine.Poll.{Poll}
 use Rattle.startup.specs.declared.Outcome.{Outcome}
@@ -59,9 +59,10 @@ outcomeBy stop left x y = cond (eqb stop 0) (cond (eqb left 0) (Cut x y) (Done x
 abbrev pub endedOf : Clocks → InternalRCCConfig → Machine → Started
 endedOf x y m = record { outcome = outcomeBy (m .stop) (m .left) x y; polls = m .polls; file = m .file }
 
--- the limit is not refused, and at most n waits are behind
-abbrev pub Room : ℕ → ℕ → Machine → Type 0
-Room n lim m = (lim ≤ 65535) × (m .polls ≤ n * 65535)
+-- the limit is not refused, and the polls made so far fit a u32 with those of every wait of the list os to come
+pub record Room (os : List Op) (lim : ℕ) (m : Machine) : Type 0 where
+  pub limit : lim ≤ 65535
+  pub polls : m .polls + waits os * 65535 ≤ 4294967295
 
 -- r is m after the store that makes its file f
 pub record Stored (m : Machine) (f : List ℕ) (r : Machine) : Type 0 where
@@ -78,10 +79,10 @@ pub record Waited (xs : List ℕ) (lim : ℕ) (m : Machine) (k : ℕ) (r : Machi
   pub is : r ≡ waitOf xs lim m k
   pub polls : r .polls ≤ m .polls + 65535
 
--- r is what the list os, with at most n waits, makes of m
-pub record Ran (xs : List ℕ) (lim : ℕ) (m : Machine) (os : List Op) (n : ℕ) (r : Machine) : Type 0 where
+-- r is what the list os makes of m
+pub record Ran (xs : List ℕ) (lim : ℕ) (m : Machine) (os : List Op) (r : Machine) : Type 0 where
   pub is : r ≡ runs xs lim m os
-  pub polls : r .polls ≤ m .polls + n * 65535
+  pub polls : r .polls ≤ m .polls + waits os * 65535
 
 -- r is what the stores os, with no wait among them, make of m, whatever the answers
 pub record Puts (m : Machine) (os : List Op) (r : Machine) : Type 0 where

@@ -57,7 +57,7 @@ fn run(
     cut: u8,
 ) -> Machine
     requires { ⌜ limit ≤ 65535 ⌝ }
-    ensures { λ r. ⌜ Ran (now (answers .entry)) limit (beginOf file cut) (opsOf cfgr config) 8 r ⌝ }
+    ensures { λ r. ⌜ Ran (now (answers .entry)) limit (beginOf file cut) (opsOf cfgr config) r ⌝ }
 {
     let sources = cfgr.sources;
     let hse = sources.hse;

@@ -4,6 +4,7 @@ ghost use mathlib.Core.List.{[], _∷_};
 ghost use mathlib.Core.Path.{_≡_};
 ghost use Prim.Native.Nat.{_+_, _<_, _≤_};
 ghost use Rattle.order.specs.Places as places;
+ghost use Rattle.order.specs.Order as list;
 ghost use Rattle.startup.specs.Machine.{beginOf, going, pollOf, waitedOf, Room, Stored, Put, Waited};
 
 // The register file, the stores left before the cut, the polls made, the next of the answers, and the wait that was not answered or 0.
@@ -114,7 +115,7 @@ fn waited(mut m: Machine, k: u8, p: Poll) -> Machine
 
 // The wait with number k.
 pub(crate) fn wait(m: Machine, answers: &[u8], limit: u32, k: u8) -> Machine
-    requires { ⌜ Room 7 limit m ⌝ }
+    requires { ⌜ Room (list.wait k ∷ []) limit m ⌝ }
     ensures { λ r. ⌜ Waited (now (answers .entry)) limit m k r ⌝ }
 {
     if goes_on(m) {

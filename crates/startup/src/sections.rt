@@ -19,8 +19,8 @@ ghost use Rattle.order.specs.Order.{hsiOps, crystalOps, hseOps, pllOn, overOps,
 
 // HSION; W; SW = HSI.
 pub(crate) fn hsi_part(m: Machine, answers: &[u8], limit: u32) -> Machine
-    requires { ⌜ Room 0 limit m ⌝ }
-    ensures { λ r. ⌜ Ran (now (answers .entry)) limit m hsiOps 1 r ⌝ }
+    requires { ⌜ Room hsiOps limit m ⌝ }
+    ensures { λ r. ⌜ Ran (now (answers .entry)) limit m hsiOps r ⌝ }
 {
     let m = set(m, registers::HSION, 1);
     let m = wait(m, answers, limit, 1);
@@ -37,8 +37,8 @@ fn crystal(
     number: u8,
     bypass: u32,
 ) -> Machine
-    requires { ⌜ Room 5 limit m × (byp < places.PLACES) × (on < places.PLACES) ⌝ }
-    ensures { λ r. ⌜ Ran (now (answers .entry)) limit m (crystalOps byp on number bypass) 1 r ⌝ }
+    requires { ⌜ Room (crystalOps byp on number bypass) limit m × (byp < places.PLACES) × (on < places.PLACES) ⌝ }
+    ensures { λ r. ⌜ Ran (now (answers .entry)) limit m (crystalOps byp on number bypass) r ⌝ }
 {
     let m = set(m, byp, bypass);
     let m = set(m, on, 1);
@@ -47,8 +47,8 @@ fn crystal(
 
 // HSE given: HSEBYP; HSEON; W.
 pub(crate) fn hse_part(m: Machine, answers: &[u8], limit: u32, hse: HSEClock) -> Machine
-    requires { ⌜ Room 1 limit m ⌝ }
-    ensures { λ r. ⌜ Ran (now (answers .entry)) limit m (hseOps hse) 1 r ⌝ }
+    requires { ⌜ Room (hseOps hse) limit m ⌝ }
+    ensures { λ r. ⌜ Ran (now (answers .entry)) limit m (hseOps hse) r ⌝ }
 {
     match hse {
         HSEClock::Absent => m,
@@ -75,8 +75,8 @@ pub(crate) fn hse_part(m: Machine, answers: &[u8], limit: u32, hse: HSEClock) ->
 
 // PLLON = 0; the five PLL fields; PWREN; VOS; PLLON = 1; W.
 fn pll_on(m: Machine, answers: &[u8], limit: u32, hse: HSEClock, pll: Pll, vos: u32) -> Machine
-    requires { ⌜ Room 2 limit m ⌝ }
-    ensures { λ r. ⌜ Ran (now (answers .entry)) limit m (pllOn hse pll vos) 1 r ⌝ }
+    requires { ⌜ Room (pllOn hse pll vos) limit m ⌝ }
+    ensures { λ r. ⌜ Ran (now (answers .entry)) limit m (pllOn hse pll vos) r ⌝ }
 {
     let m = set(m, registers::PLLON, 0);
     let file = m.file;
@@ -89,8 +89,8 @@ fn pll_on(m: Machine, answers: &[u8], limit: u32, hse: HSEClock, pll: Pll, vos: 
 
 // With over-drive: ODEN; W; ODSWEN; W.
 fn over_drive(m: Machine, answers: &[u8], limit: u32, overdrive: bool) -> Machine
-    requires { ⌜ Room 3 limit m ⌝ }
-    ensures { λ r. ⌜ Ran (now (answers .entry)) limit m (overOps overdrive) 2 r ⌝ }
+    requires { ⌜ Room (overOps overdrive) limit m ⌝ }
+    ensures { λ r. ⌜ Ran (now (answers .entry)) limit m (overOps overdrive) r ⌝ }
 {
     if overdrive {
         let m = set(m, registers::ODEN, 1);
@@ -111,8 +111,8 @@ pub(crate) fn pll_part(
     pll: Pll,
     config: InternalRCCConfig,
 ) -> Machine
-    requires { ⌜ Room 2 limit m ⌝ }
-    ensures { λ r. ⌜ Ran (now (answers .entry)) limit m (pllOps hse pll config) 3 r ⌝ }
+    requires { ⌜ Room (pllOps hse pll config) limit m ⌝ }
+    ensures { λ r. ⌜ Ran (now (answers .entry)) limit m (pllOps hse pll config) r ⌝ }
 {
     if registers::is_stored(pll) {
         let m = pll_on(m, answers, limit, hse, pll, config.vos_scale as u32);
@@ -124,8 +124,8 @@ pub(crate) fn pll_part(
 
 // LSE: LSEBYP; LSEON; W.
 pub(crate) fn lse_part(m: Machine, answers: &[u8], limit: u32, lse: LSEClock) -> Machine
-    requires { ⌜ Room 5 limit m ⌝ }
-    ensures { λ r. ⌜ Ran (now (answers .entry)) limit m (lseOps lse) 1 r ⌝ }
+    requires { ⌜ Room (lseOps lse) limit m ⌝ }
+    ensures { λ r. ⌜ Ran (now (answers .entry)) limit m (lseOps lse) r ⌝ }
 {
     match lse {
         LSEClock::Absent => m,
@@ -144,8 +144,8 @@ pub(crate) fn lse_part(m: Machine, answers: &[u8], limit: u32, lse: LSEClock) ->
 
 // LSI: LSION; W.
 pub(crate) fn lsi_part(m: Machine, answers: &[u8], limit: u32, lsi: bool) -> Machine
-    requires { ⌜ Room 6 limit m ⌝ }
-    ensures { λ r. ⌜ Ran (now (answers .entry)) limit m (lsiOps lsi) 1 r ⌝ }
+    requires { ⌜ Room (lsiOps lsi) limit m ⌝ }
+    ensures { λ r. ⌜ Ran (now (answers .entry)) limit m (lsiOps lsi) r ⌝ }
 {
     if lsi {
         let m = set(m, registers::LSION, 1);
@@ -201,8 +201,8 @@ pub(crate) fn last_part(
     config: InternalRCCConfig,
     sw: u32,
 ) -> Machine
-    requires { ⌜ Room 7 limit m ⌝ }
-    ensures { λ r. ⌜ Ran (now (answers .entry)) limit m (lastOps mco config sw) 1 r ⌝ }
+    requires { ⌜ Room (lastOps mco config sw) limit m ⌝ }
+    ensures { λ r. ⌜ Ran (now (answers .entry)) limit m (lastOps mco config sw) r ⌝ }
 {
     let file = m.file;
     let m = store(m, registers::mco(file, mco));

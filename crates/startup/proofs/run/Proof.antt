@@ -1,7 +1,6 @@
--- `run` meets its contract: its sections one after the other, and no more waits than they have.
+-- `run` meets its contract: its sections one after the other, and room for the waits of each.
 use mathlib.Core.Path.{sym}
-use mathlib.Core.List.{[]}
-use Rattle.startup.proofs.Runs.{none, begins, more, joined, room}
+use Rattle.startup.proofs.Runs.{begins, more, any-run, room, first, after, after-puts}
 use borrow.Author.Needs.{needs}
 use Rattle.startup.proofs.run.Statement.{statement}
 use Rattle.startup.proofs.run.Tie as tie
@@ -10,27 +9,29 @@ begun-requires : tie.Need-begun-requires
 begun-requires c κs = search needs
 
 hsi-part-requires : tie.Need-hsi-part-requires
-hsi-part-requires c κs = room (c .before .before .before .before .before .before .before .pre) (begins (c .begun .ensures) (none {xs = []}))
+hsi-part-requires c κs =
+    let a = c in let z = a .before .before .before .before .before .before .before in
+    first _ (room (z .args .cfgr) (z .args .config) (z .pre) (a .begun .ensures))
 
 hse-part-requires : tie.Need-hse-part-requires
 hse-part-requires c κs =
-    let a = c in let z = a .before in
-    room (z .before .before .before .before .before .before .before .pre) (begins (z .begun .ensures) (a .hsi-part .ensures))
+    let b = c in let a = b .before in let z = a .before .before .before .before .before .before .before in
+    first _ (after (b .hsi-part .ensures) (room (z .args .cfgr) (z .args .config) (z .pre) (a .begun .ensures)))
 
 pll-part-requires : tie.Need-pll-part-requires
 pll-part-requires c κs =
-    let b = c in let a = b .before in let z = a .before in
-    room (z .before .before .before .before .before .before .before .pre) (more (begins (z .begun .ensures) (a .hsi-part .ensures)) (b .hse-part .ensures))
+    let d = c in let b = d .before in let a = b .before in let z = a .before .before .before .before .before .before .before in
+    first _ (after (d .hse-part .ensures) (after (b .hsi-part .ensures) (room (z .args .cfgr) (z .args .config) (z .pre) (a .begun .ensures))))
 
 lse-part-requires : tie.Need-lse-part-requires
 lse-part-requires c κs =
-    let d = c in let b = d .before in let a = b .before in let z = a .before in
-    room (z .before .before .before .before .before .before .before .pre) (more (more (begins (z .begun .ensures) (a .hsi-part .ensures)) (b .hse-part .ensures)) (d .pll-part .ensures))
+    let e = c in let d = e .before in let b = d .before in let a = b .before in let z = a .before .before .before .before .before .before .before in
+    first _ (after (e .pll-part .ensures) (after (d .hse-part .ensures) (after (b .hsi-part .ensures) (room (z .args .cfgr) (z .args .config) (z .pre) (a .begun .ensures)))))
 
 lsi-part-requires : tie.Need-lsi-part-requires
 lsi-part-requires c κs =
-    let e = c in let d = e .before in let b = d .before in let a = b .before in let z = a .before in
-    room (z .before .before .before .before .before .before .before .pre) (more (more (more (begins (z .begun .ensures) (a .hsi-part .ensures)) (b .hse-part .ensures)) (d .pll-part .ensures)) (e .lse-part .ensures))
+    let f = c in let e = f .before in let d = e .before in let b = d .before in let a = b .before in let z = a .before .before .before .before .before .before .before in
+    first _ (after (f .lse-part .ensures) (after (e .pll-part .ensures) (after (d .hse-part .ensures) (after (b .hsi-part .ensures) (room (z .args .cfgr) (z .args .config) (z .pre) (a .begun .ensures))))))
 
 sai-part-requires : tie.Need-sai-part-requires
 sai-part-requires c κs = search needs
@@ -46,15 +47,19 @@ sw-requires c κs = search needs
 
 last-part-requires : tie.Need-last-part-requires
 last-part-requires c κs =
-    let i = c .before in let h = i .before in let g = h .before in let f = g .before in let e = f .before in let d = e .before in let b = d .before in let a = b .before in let z = a .before in
-    room (z .before .before .before .before .before .before .before .pre)
-    (joined (joined (joined (more (more (more (more (begins (z .begun .ensures) (a .hsi-part .ensures)) (b .hse-part .ensures)) (d .pll-part .ensures)) (e .lse-part .ensures)) (f .lsi-part .ensures)) (g .sai-part .ensures)) (h .choice-part .ensures)) (i .i2s-part .ensures))
+    let j = c .before in let i = j .before in let h = i .before in let g = h .before in let f = g .before in let e = f .before in let d = e .before in let b = d .before in
+    let a = b .before in let z = a .before .before .before .before .before .before .before in
+    rw (c .sw .ensures)
+    (after-puts (j .i2s-part .ensures) (after-puts (i .choice-part .ensures) (after-puts (h .sai-part .ensures)
+    (after (g .lsi-part .ensures) (after (f .lse-part .ensures) (after (e .pll-part .ensures) (after (d .hse-part .ensures) (after (b .hsi-part .ensures) (room (z .args .cfgr) (z .args .config) (z .pre) (a .begun .ensures))))))))))
 
 returns : tie.Need-returns
 returns c =
-    let i = c .before .before in let h = i .before in let g = h .before in let f = g .before in let e = f .before in let d = e .before in let b = d .before in let a = b .before in let z = a .before in
+    let j = c .before .before in let i = j .before in let h = i .before in let g = h .before in let f = g .before in let e = f .before in let d = e .before in let b = d .before in
+    let a = b .before in
     rw (sym (c .before .sw .ensures))
-    (more (joined (joined (joined (more (more (more (more (begins (z .begun .ensures) (a .hsi-part .ensures)) (b .hse-part .ensures)) (d .pll-part .ensures)) (e .lse-part .ensures)) (f .lsi-part .ensures)) (g .sai-part .ensures)) (h .choice-part .ensures)) (i .i2s-part .ensures)) (c .last-part .ensures))
+    (more (begins (a .begun .ensures) (b .hsi-part .ensures)) (more (d .hse-part .ensures) (more (e .pll-part .ensures) (more (f .lse-part .ensures) (more (g .lsi-part .ensures)
+    (more (any-run (h .sai-part .ensures)) (more (any-run (i .choice-part .ensures)) (more (any-run (j .i2s-part .ensures)) (c .last-part .ensures)))))))))
 
 pub run-spec : {M : Type 1} → statement M
 run-spec =

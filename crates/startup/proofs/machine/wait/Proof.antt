@@ -12,20 +12,23 @@ goes-on-requires : tie.Need-goes-on-requires
 goes-on-requires c κs = search needs
 
 poll-for-requires : tie.Need-poll-for-requires
-poll-for-requires c κs = search needs
+poll-for-requires c κs = c .before .before .before .pre .limit
 
 waited-requires : tie.Need-waited-requires
 waited-requires c κs =
-    let h : c .poll-for .result .polls ≤ 0 + c .before .before .before .before .args .limit = rw (c .poll-for .ensures) (few _ _ _ _) in omega arith
+    let z = c .before .before .before .before in
+    let h : c .poll-for .result .polls ≤ 0 + z .args .limit = rw (c .poll-for .ensures) (few _ _ _ _) in
+    omega (arith, h, z .pre .limit, z .pre .polls)
 
 returns : tie.Need-returns
 unfolding waitOf live
 returns c =
-    let a = c .before .before .before .before .before .args in
+    let z = c .before .before .before .before .before in
+    let a = z .args in
     let h : c .before .poll-for .result .polls ≤ 0 + a .limit = rw (c .before .poll-for .ensures) (few _ _ _ _) in
     record {
       is = simp (sym (c .before .before .before .goes-on .ensures) ∙ c .before .before .if1 .taken) (c .waited .ensures .0 ∙ ap (waitedOf (a .m) (a .k)) (c .before .poll-for .ensures));
-      polls = omega arith;
+      polls = omega (arith, h, c .waited .ensures .1, z .pre .limit);
     }
 
 returns-2 : tie.Need-returns-2

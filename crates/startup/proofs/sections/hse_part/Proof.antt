@@ -1,5 +1,8 @@
 -- `hse_part` meets its contract: by whether HSE is given, and how.
-use Rattle.startup.proofs.Runs.{idle}
+use native.Mathlib.Omega.{arith}
+use mathlib.Core.Path.{ap}
+use Rattle.order.specs.Order.{hseOps}
+use Rattle.startup.proofs.Runs.{none, same}
 use borrow.Author.Needs.{needs}
 use Rattle.startup.proofs.sections.hse_part.Statement.{statement}
 use Rattle.startup.proofs.sections.hse_part.Tie as tie
@@ -11,16 +14,16 @@ enum-told-2 : tie.Need-enum-told-2
 enum-told-2 c = search needs
 
 crystal-requires : tie.Need-crystal-requires
-crystal-requires c κs = search needs
+crystal-requires c κs = (same (ap hseOps (c .enum-told2 .given .1)) (c .before .before .before .pre), omega arith, omega arith)
 
 enum-told-3 : tie.Need-enum-told-3
 enum-told-3 c = search needs
 
 crystal-requires-2 : tie.Need-crystal-requires-2
-crystal-requires-2 c κs = search needs
+crystal-requires-2 c κs = (same (ap hseOps (c .enum-told3 .given .1)) (c .before .before .before .pre), omega arith, omega arith)
 
 returns : tie.Need-returns
-returns c = rw (c .enum-told .given .1) idle
+returns c = rw (c .enum-told .given .1) none
 
 returns-2 : tie.Need-returns-2
 returns-2 c = rw (c .before .enum-told2 .given .1) (c .crystal .ensures)

@@ -1,5 +1,5 @@
 -- `hsi_part` meets its contract: its stores and its wait, one after the other.
-use Rattle.startup.proofs.Runs.{none, stored, polled}
+use Rattle.startup.proofs.Runs.{none, stored, polled, first, after-store}
 use borrow.Author.Needs.{needs}
 use Rattle.startup.proofs.sections.hsi_part.Statement.{statement}
 use Rattle.startup.proofs.sections.hsi_part.Tie as tie
@@ -8,7 +8,7 @@ set-requires : tie.Need-set-requires
 set-requires c κs = search needs
 
 wait-requires : tie.Need-wait-requires
-wait-requires c κs = search needs
+wait-requires c κs = first _ (after-store (c .set .ensures) (c .before .before .pre))
 
 set-requires-2 : tie.Need-set-requires-2
 set-requires-2 c κs = search needs

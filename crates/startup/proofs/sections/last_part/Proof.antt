@@ -1,6 +1,5 @@
 -- `last_part` meets its contract: its stores and its wait, one after the other.
-use native.Mathlib.Omega.{arith}
-use Rattle.startup.proofs.Runs.{none, stored, polled, puts}
+use Rattle.startup.proofs.Runs.{none, stored, polled, puts, after-store}
 use borrow.Author.Needs.{needs}
 use Rattle.startup.proofs.sections.last_part.Statement.{statement}
 use Rattle.startup.proofs.sections.last_part.Tie as tie
@@ -29,7 +28,8 @@ set-requires c κs = search needs
 wait-requires : tie.Need-wait-requires
 wait-requires c κs =
     let d = c .before in let b = d .before .before .before in let a = b .before .before .before in let z = a .before .before .before .before in
-    (z .pre .0, omega (arith, c .set .ensures .polls, d .store3 .ensures .polls, b .store2 .ensures .polls, a .store .ensures .polls, z .pre .1))
+    after-store (c .set .ensures) (after-store (puts (d .before .prescalers .ensures) (d .store3 .ensures))
+    (after-store (puts (b .before .acr .ensures) (b .store2 .ensures)) (after-store (puts (a .before .mco .ensures) (a .store .ensures)) (z .pre))))
 
 returns : tie.Need-returns
 returns c =

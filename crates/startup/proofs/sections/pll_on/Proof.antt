@@ -1,5 +1,5 @@
 -- `pll_on` meets its contract: its stores and its wait, one after the other.
-use Rattle.startup.proofs.Runs.{none, stored, polled, puts}
+use Rattle.startup.proofs.Runs.{none, stored, polled, puts, after-store}
 use borrow.Author.Needs.{needs}
 use Rattle.startup.proofs.sections.pll_on.Statement.{statement}
 use Rattle.startup.proofs.sections.pll_on.Tie as tie
@@ -23,7 +23,10 @@ set-requires-4 : tie.Need-set-requires-4
 set-requires-4 c κs = search needs
 
 wait-requires : tie.Need-wait-requires
-wait-requires c κs = search needs
+wait-requires c κs =
+    let f = c in let e = f .before in let d = e .before in let b = d .before in let a = b .before .before .before in
+    after-store (f .set4 .ensures) (after-store (e .set3 .ensures) (after-store (d .set2 .ensures)
+    (after-store (puts (b .before .pllcfgr .ensures) (b .store .ensures)) (after-store (a .set .ensures) (a .before .before .pre)))))
 
 returns : tie.Need-returns
 returns c =
