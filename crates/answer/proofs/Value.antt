@@ -14,8 +14,6 @@ use Rattle.kinds.proofs.Check.{told-check}
 use Rattle.pll.specs.Numbers.{passesOf as searchPasses}
 use Rattle.configure.specs.Ways.{searchIn, Seeks}
 use Rattle.configure.proofs.Theorems.{passes-are-the-search's, no-search-no-pass}
-use Rattle.clocks.specs.declared.Clocks.{Clocks}
-use Rattle.clocks.specs.declared.InternalRCCConfig.{InternalRCCConfig}
 use Rattle.plan.specs.Plan.{planOf, passesOf}
 use Rattle.plan.specs.declared.Planned.{Planned}
 use Rattle.plan.specs.declared.Planned.the-variants.{Refused, Ready}
@@ -23,7 +21,6 @@ use Rattle.plan.proofs.Theorems.{refused-is-not-0, passes-are-configure's}
 use Rattle.record.specs.Config.{cfgrOf}
 use Rattle.record.specs.Reading.{readOf}
 use Rattle.record.specs.WellFormed.{WellFormed}
-use Rattle.record.specs.declared.Fault.{Fault}
 use Rattle.record.specs.declared.Reading.{Reading}
 use Rattle.record.specs.declared.Reading.the-variants.{Config, Malformed}
 use Rattle.record.proofs.Exactly.{reads-exactly, else-malformed, malformed-14}
@@ -31,7 +28,7 @@ use Rattle.text.specs.Ascii.{codes}
 use Rattle.text.specs.Back.{numbersIn}
 use Rattle.text.specs.Line.{QUANTITIES, lineOf, okLine, noLine}
 use Rattle.text.proofs.Reading.{ok-line-reads-back, no-line-reads-back}
-use Rattle.answer.specs.Answer.{quantitiesOf, refusedAnswer, plannedAnswer, readAnswer, answerOf, lineOfAnswer, answerLine}
+use Rattle.answer.specs.Answer.{quantitiesOf, refusedAnswer, plannedAnswer, readAnswer, answerOf, lineOfAnswer, answerLine, Granted}
 use Rattle.answer.specs.declared.Answer.{Answer}
 
 -- ---- what its line tells
@@ -67,18 +64,16 @@ pub malformed-answer : (bytes : List ℕ) → (WellFormed bytes → ⊥) → ans
 unfolding answerOf readAnswer
 malformed-answer bytes n = let f = else-malformed bytes n in rw (f .1, malformed-14 (f .0))
 
--- 0 is given where there is a plan, and only there: the quantities are its own
-planned-from : (c : CFGR) (y : Planned) → planOf c ≡ y → plannedAnswer y .number ≡ 0
-    → (d : CFGR) × (k : ℕ) × (x : Clocks) × (g : InternalRCCConfig) × (y ≡ Ready d k x g) × (plannedAnswer y .quantities ≡ quantitiesOf (d .pll) x g)
+-- 0 is given where there is a plan, and only there
+granted : (c : CFGR) (y : Planned) → planOf c ≡ y → plannedAnswer y .number ≡ 0 → Granted c (plannedAnswer y)
 unfolding plannedAnswer refusedAnswer
-planned-from c (Refused number passes) h e = absurd (refused-is-not-0 c number passes h e)
-planned-from c (Ready d k x g) h e = (d, k, x, g, refl, refl)
+granted c (Refused number passes) h e = absurd (refused-is-not-0 c number passes h e)
+granted c (Ready d k x g) h e = record { cfgr = d; passes = k; clocks = x; config = g; plan = h; same-passes = refl; same-quantities = refl }
 
-pub accepted-planned : (bytes : List ℕ) → WellFormed bytes → answerOf bytes .number ≡ 0
-    → (d : CFGR) × (k : ℕ) × (x : Clocks) × (g : InternalRCCConfig) × (planOf (cfgrOf bytes) ≡ Ready d k x g) × (answerOf bytes .quantities ≡ quantitiesOf (d .pll) x g)
+pub accepted-planned : (bytes : List ℕ) → WellFormed bytes → answerOf bytes .number ≡ 0 → Granted (cfgrOf bytes) (answerOf bytes)
 accepted-planned bytes w e =
     let p = planned-answer bytes w in
-    rw p (planned-from (cfgrOf bytes) (planOf (cfgrOf bytes)) refl (rw p at e))
+    rw p (granted (cfgrOf bytes) (planOf (cfgrOf bytes)) refl (rw p at e))
 
 -- there are fourteen quantities, and refused each is 0
 abbrev Fourteen : Answer → Type 0

@@ -1,10 +1,12 @@
 -- Document 01, "Request record", the program's line: what any bytes are answered with, as a value and as its line.
 use Prim.Native.Nat.{ℕ}
+use mathlib.Core.Path.{_≡_}
 use mathlib.Core.Bool.{cond}
 use mathlib.Core.List.{List, [], _∷_}
 use lib.Dec.{eqb}
 use lib.ListN.{replicate}
 use Rattle.kinds.specs.Codes.{pDividerOf}
+use Rattle.kinds.specs.declared.CFGR.{CFGR}
 use Rattle.kinds.specs.declared.Pll.{Pll}
 use Rattle.plan.specs.Plan.{planOf, numberOf as planNumber}
 use Rattle.clocks.specs.declared.Clocks.{Clocks}
@@ -58,6 +60,16 @@ answerLine bytes = lineOfAnswer (answerOf bytes)
 abbrev pub refusalOf : Reading → ℕ
 refusalOf (Malformed fault) = numberOf fault
 refusalOf (Config c) = planNumber (planOf c)
+
+-- an accepted configuration has a plan, and its answer tells that plan's passes and quantities
+pub record Granted (c : CFGR) (a : Answer) : Type 0 where
+  pub cfgr : CFGR
+  pub passes : ℕ
+  pub clocks : Clocks
+  pub config : InternalRCCConfig
+  pub plan : planOf c ≡ Ready cfgr passes clocks config
+  pub same-passes : a .passes ≡ passes
+  pub same-quantities : a .quantities ≡ quantitiesOf (cfgr .pll) clocks config
 
 -- document 01's whole output for the record of the Rust's defaults
 abbrev pub defaultLine : List ℕ
