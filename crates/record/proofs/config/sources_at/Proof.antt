@@ -13,8 +13,8 @@ flag-requires c κs = search needs
 flag-requires-2 : tie.Need-flag-requires-2
 flag-requires-2 c κs = search needs
 
-hse-of-requires : tie.Need-hse-of-requires
-hse-of-requires c κs = search needs
+hse-from-requires : tie.Need-hse-from-requires
+hse-from-requires c κs = search needs
 
 flag-requires-3 : tie.Need-flag-requires-3
 flag-requires-3 c κs = search needs
@@ -22,15 +22,15 @@ flag-requires-3 c κs = search needs
 flag-requires-4 : tie.Need-flag-requires-4
 flag-requires-4 c κs = search needs
 
-lse-of-requires : tie.Need-lse-of-requires
-lse-of-requires c κs = search needs
+lse-from-requires : tie.Need-lse-from-requires
+lse-from-requires c κs = search needs
 
 flag-requires-5 : tie.Need-flag-requires-5
 flag-requires-5 c κs = search needs
 
 returns : tie.Need-returns
 unfolding sourcesOf
-returns c = rw (c .flag5 .ensures, c .before .lse-of .ensures, c .before .before .flag4 .ensures, c .before .before .before .flag3 .ensures, c .before .before .before .before .hse-of .ensures, c .before .before .before .before .before .flag2 .ensures, c .before .before .before .before .before .before .flag .ensures, c .before .before .before .before .before .before .before .hertz-at .ensures)
+returns c = rw (c .flag5 .ensures, c .before .lse-from .ensures, c .before .before .flag4 .ensures, c .before .before .before .flag3 .ensures, c .before .before .before .before .hse-from .ensures, c .before .before .before .before .before .flag2 .ensures, c .before .before .before .before .before .before .flag .ensures, c .before .before .before .before .before .before .before .hertz-at .ensures)
 
 pub sources-at-spec : {M : Type 1} → statement M
 sources-at-spec =
@@ -39,9 +39,9 @@ sources-at-spec =
     hertz-at-requires
     flag-requires
     flag-requires-2
-    hse-of-requires
+    hse-from-requires
     flag-requires-3
     flag-requires-4
-    lse-of-requires
+    lse-from-requires
     flag-requires-5
     returns)
