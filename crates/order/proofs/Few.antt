@@ -2,7 +2,7 @@
 use Prim.Native.Nat.{ℕ, suc, _+_, _≤_}
 use native.Mathlib.Omega.{arith}
 use native.Mathlib.Nat.{zero-add, suc-add}
-use mathlib.Core.Path.{_≡_, refl, sym, _∙_, ap}
+use mathlib.Core.Path.{_≡_, sym, _∙_, ap}
 use mathlib.Core.Bool.{Bool, true, false}
 use mathlib.Core.List.{List, [], _∷_, _++_}
 use lib.ListN.{length, length-append}
@@ -12,9 +12,6 @@ use Rattle.kinds.specs.declared.LSEClock.{LSEClock}
 use Rattle.kinds.specs.declared.LSEClock.the-variants.{Oscillator}
 use Rattle.kinds.specs.declared.Choice48.{Choice48}
 use Rattle.kinds.specs.declared.Choice48.the-variants.{Pllq}
-use Rattle.kinds.specs.declared.Pll.{Pll}
-use Rattle.kinds.specs.declared.Sai.{Sai}
-use Rattle.kinds.specs.declared.I2s.{I2s}
 use Rattle.clocks.specs.declared.InternalRCCConfig.{InternalRCCConfig}
 use Rattle.order.specs.Places.{HSION, HSEBYP, HSEON, PLLSAION, PLLI2SON, SW}
 use Rattle.order.specs.Order.{Op, put, wait, one, hsiOps, crystalOps, hseOps, pllOn, overOps, pllOps, lseOps, lsiOps, pllsaicfgr, saiOps, choiceOps, plli2scfgr, i2sOps, swOf, lastOps, opsOf, STORES, WAITS, storesOf, waits}

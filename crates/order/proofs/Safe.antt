@@ -12,7 +12,7 @@ use Rattle.kinds.specs.declared.CFGR.{CFGR}
 use Rattle.clocks.specs.declared.InternalRCCConfig.{InternalRCCConfig}
 use Rattle.order.specs.Places.{PLACES, HSION, PLLON, SW, PPRE1, PPRE2, HPRE, PLLM, PLLN, PLLP, PLLQ, PLLSRC, VOS, ODEN, ODSWEN, LATENCY}
 use Rattle.order.specs.Files.{Store, applies}
-use Rattle.order.specs.Order.{Op, pllStored, mcoFields, acr, prescalers, swOf, lastOps, restOps, opsOf, storesOf}
+use Rattle.order.specs.Order.{Op, pllStored, swOf, lastOps, restOps, opsOf, storesOf}
 use Rattle.order.specs.Fields.{hsiFields, hseFields, pllFields, lseFields, lsiFields, saiFields, choiceFields, i2sFields, fieldsOf, names, Holds}
 use Rattle.order.specs.Safe.{PllSet, OverSet, Settled, Safe, hsi, own}
 use Rattle.order.proofs.Restart.{flat}
@@ -44,6 +44,15 @@ record Ends (os : List Op) (ws : Store) : Type 0 where
   is : storesOf os ≡ stores ++ ws ∷ []
   quiet : names SW (flat stores) ≡ false
 
+-- all stores but the last
+abbrev but-last : List Store → List Store
+but-last [] = []
+but-last (a ∷ []) = []
+but-last (a ∷ b ∷ l) = a ∷ but-last (b ∷ l)
+
+ends : (os : List Op) (ws : Store) → storesOf os ≡ but-last (storesOf os) ++ ws ∷ [] → names SW (flat (but-last (storesOf os))) ≡ false → Ends os ws
+ends os ws e n = record { stores = but-last (storesOf os); is = e; quiet = n }
+
 -- a section ahead that has no place SW
 ahead : {P : List ℕ} {os ps : List Op} {F : List (ℕ × ℕ)} {ws : Store} → Section P os F → Ends ps ws → has SW P ≡ false → Ends (os ++ ps) ws
 ahead {P} {os} {ps} {F} {ws} s r n =
@@ -63,7 +72,7 @@ begins l = ((HSION, 1) ∷ []) ∷ ((SW, 0) ∷ []) ∷ l
 
 rest-ends : (d : CFGR) (y : InternalRCCConfig) → Ends (restOps d y) (final d)
 rest-ends d y =
-    let last : Ends (lastOps (d .mco) y (swOf (d .sources .hse) (d .pll))) (final d) = record { stores = mcoFields (d .mco) ∷ acr y ∷ prescalers y ∷ []; is = refl; quiet = refl } in
+    let last = ends (lastOps (d .mco) y (swOf (d .sources .hse) (d .pll))) (final d) refl refl in
     let i2s = ahead (i2s-section (d .i2s)) last refl in
     let choice = ahead (choice-section (d .pll .pll48clk)) i2s refl in
     let sai = ahead (sai-section (d .sai)) choice refl in

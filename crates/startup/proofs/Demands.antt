@@ -18,7 +18,7 @@ use Rattle.plan.proofs.View.{planned-derived}
 use Rattle.plan.proofs.Theorems.{plan-is-configured, plan-is-derived}
 use Rattle.order.specs.Places.{PLACES}
 use Rattle.order.specs.Files.{applies}
-use Rattle.order.specs.Order.{Op, pllStored, opsOf, storesOf, waits, waitsBy}
+use Rattle.order.specs.Order.{Op, pllStored, opsOf, STORES, WAITS, storesOf, waits, waitsBy}
 use Rattle.startup.specs.Start.{Ending, at-end, at-cut, at-wait, walk, outcomeOf, startedOf, startOf}
 use Rattle.startup.specs.Cuts.{Leaves, whole, first, before, Comes, away, over, Try, tried, Switched}
 use Rattle.order.specs.Fields.{fieldsOf, names, Holds}
@@ -197,7 +197,7 @@ module _ (c d : CFGR) (k : ℕ) (x : Clocks) (y : InternalRCCConfig) (p : planOf
         ∙ ap (outcomeOf x y) (subst (λ (m : ℕ). walk m (opsOf d y) cut ones f .ending ≡ at-cut) limit (ones-cut (lim - 1) (opsOf d y) cut ys f h))
 
   -- demand 3, second half, with such answers and a cut above every plan's stores: over what any start of the plan left, as over the first file
-  pub restarted : (f : List ℕ) (lim : ℕ) (xs : List ℕ) (cut : ℕ) (lim' : ℕ) (ys : List ℕ) (cut' : ℕ) → Between 1 65535 lim' → 23 < cut'
+  pub restarted : (f : List ℕ) (lim : ℕ) (xs : List ℕ) (cut : ℕ) (lim' : ℕ) (ys : List ℕ) (cut' : ℕ) → Between 1 65535 lim' → STORES < cut'
       → startOf c (startOf c f lim xs cut .file) lim' (replicate (waits (opsOf d y)) 1 ++ ys) cut' .file ≡ startOf c f lim' (replicate (waits (opsOf d y)) 1 ++ ys) cut' .file
   restarted f lim xs cut lim' ys cut' b h =
       let s = stores-few d y in
@@ -205,18 +205,18 @@ module _ (c d : CFGR) (k : ℕ) (x : Clocks) (y : InternalRCCConfig) (p : planOf
       (answered f lim' ys cut' b (omega arith) .0) (answered (startOf c f lim xs cut .file) lim' ys cut' b (omega arith) .0)
 
   -- so over what any number of tries left, one after the other, cut or unanswered or done
-  pub restarted-again : (f : List ℕ) (l : List Try) (lim : ℕ) (ys : List ℕ) (cut : ℕ) → Between 1 65535 lim → 23 < cut
+  pub restarted-again : (f : List ℕ) (l : List Try) (lim : ℕ) (ys : List ℕ) (cut : ℕ) → Between 1 65535 lim → STORES < cut
       → startOf c (tried c f l) lim (replicate (waits (opsOf d y)) 1 ++ ys) cut .file ≡ startOf c f lim (replicate (waits (opsOf d y)) 1 ++ ys) cut .file
   restarted-again f [] lim ys cut b h = refl
   restarted-again f (t ∷ l) lim ys cut b h =
       restarted-again (startOf c f (t .limit) (t .answers) (t .cut) .file) l lim ys cut b h ∙ restarted f (t .limit) (t .answers) (t .cut) lim ys cut b h
 
 -- ---- for every configuration
--- polls: at most eight times the limit
-pub polls-at-most : (c : CFGR) (f : List ℕ) (lim : ℕ) (xs : List ℕ) (cut : ℕ) → startOf c f lim xs cut .polls ≤ 8 * lim
+-- polls: at most the limit for each of the most waits
+pub polls-at-most : (c : CFGR) (f : List ℕ) (lim : ℕ) (xs : List ℕ) (cut : ℕ) → startOf c f lim xs cut .polls ≤ WAITS * lim
 polls-at-most c f lim xs cut = from (startOf c f lim xs cut) (start-view c f lim xs cut)
   where
-    from : (r : Started) → StartView c f lim xs cut r → r .polls ≤ 8 * lim
+    from : (r : Started) → StartView c f lim xs cut r → r .polls ≤ WAITS * lim
     from r (bad-limit o) = omega arith
     from r (not-planned b e) = omega arith
     from r (ran {d = d} {y = y} b e) =

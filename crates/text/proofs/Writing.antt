@@ -47,9 +47,9 @@ roomy a b e f = leb-true a b (sym e ∙ not-false _ f)
 pub scarce : (a b : ℕ) {r : Bool} → r ≡ leb a b → not r ≡ true → b < a
 scarce a b e f = leb-false a b (sym e ∙ not-true _ f)
 
--- with room the text is put
-pub put : {s x t : List ℕ} {i most n : ℕ} → i + most ≤ length s → n ≤ i + most → Wrote s i x t n → Placing s i x most t (Next n)
-put {s} {x} {t} {i} {most} {n} h l a = record {
+-- with room the text is placed
+pub placed : {s x t : List ℕ} {i most n : ℕ} → i + most ≤ length s → n ≤ i + most → Wrote s i x t n → Placing s i x most t (Next n)
+placed {s} {x} {t} {i} {most} {n} h l a = record {
   answer = rw (le-leb (i + most) (length s) h) (ap Next (a .ends));
   holds = rw (le-leb (i + most) (length s) h) (a .is);
   fits = λ k. omega (arith, a .ends);

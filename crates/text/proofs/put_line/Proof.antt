@@ -3,7 +3,7 @@ use Prim.Native.Nat.{_+_, _≤_}
 use native.Mathlib.Omega.{arith}
 use lib.ListN.{length}
 use Rattle.text.specs.Line.{lineOf, longest}
-use Rattle.text.proofs.Writing.{join, same, roomy, scarce, put, kept}
+use Rattle.text.proofs.Writing.{join, same, roomy, scarce, placed, kept}
 use borrow.Author.Needs.{needs}
 use Rattle.text.proofs.put_line.Statement.{statement}
 use Rattle.text.proofs.put_line.Tie as tie
@@ -43,7 +43,7 @@ unfolding lineOf
 returns-2 c =
     let q = c .before .before .before .before .before .before in
     let p = q .before .before .before .before in
-    put (room (p .before .before)) (omega (arith, p .put-text .ensures .ends, q .put-numbers .ensures .1, c .before .before .put-byte .ensures .ends))
+    placed (room (p .before .before)) (omega (arith, p .put-text .ensures .ends, q .put-numbers .ensures .1, c .before .before .put-byte .ensures .ends))
     (join (p .put-text .ensures) (join (q .put-numbers .ensures .0) (c .before .before .put-byte .ensures)))
 
 pub put-line-spec : {M : Type 1} → statement M
