@@ -2,13 +2,14 @@
 use Prim.Native.Nat.{ℕ, _*_, _/_, _≤_}
 use mathlib.Core.Path.{_≡_, refl, subst}
 use mathlib.Core.Logic.{inl, inr}
-use mathlib.Core.Bool.{Bool, true, _&&_}
+use mathlib.Core.Bool.{Bool}
 use mathlib.Core.List.{List, [], _∷_}
 use lib.Dec.{T, leb, leb→le}
 use native.Mathlib.Omega.{arith}
 use Rattle.kinds.specs.Config.{inputOf}
 use Rattle.kinds.specs.Codes.{pDividerOf}
 use Rattle.kinds.specs.Table.{Between, Checked}
+use Rattle.kinds.proofs.Turns.{all, both-left, both-right}
 use Rattle.kinds.specs.declared.CFGR.{CFGR}
 use Rattle.kinds.specs.declared.Pll.{Pll}
 use Rattle.kinds.specs.declared.Divider.{Divider}
@@ -62,22 +63,12 @@ module _ (l : Pll) (m : Divider) (n : Factor) where
   taken-q (By d) = refl
 
 -- ---- a test that each divider of a list passes
-abbrev allPass : (ℕ → Bool) → List ℕ → Bool
-allPass t [] = true
-allPass t (d ∷ ds) = t d && allPass t ds
-
-both-left : (a b : Bool) → T (a && b) → T a
-both-left true b t = tt
-
-both-right : (a b : Bool) → T (a && b) → T b
-both-right true b t = t
-
-pub among-passes : (t : ℕ → Bool) (ds : List ℕ) → T (allPass t ds) → (d : ℕ) → Among d ds → T (t d)
+pub among-passes : (t : ℕ → Bool) (ds : List ℕ) → T (all t ds) → (d : ℕ) → Among d ds → T (t d)
 among-passes t [] h d a = absurd a
-among-passes t (e ∷ es) h d (inl a) = rw a (both-left (t e) (allPass t es) h)
-among-passes t (e ∷ es) h d (inr a) = among-passes t es (both-right (t e) (allPass t es) h) d a
+among-passes t (e ∷ es) h d (inl a) = rw a (both-left (t e) (all t es) h)
+among-passes t (e ∷ es) h d (inr a) = among-passes t es (both-right (t e) (all t es) h) d a
 
-pub among-in : (lo hi : ℕ) (ds : List ℕ) → T (allPass (λ (e : ℕ). inside lo hi e) ds) → (d : ℕ) → Among d ds → Between lo hi d
+pub among-in : (lo hi : ℕ) (ds : List ℕ) → T (all (λ (e : ℕ). inside lo hi e) ds) → (d : ℕ) → Among d ds → Between lo hi d
 among-in lo hi ds h d a =
     let s = among-passes (λ (e : ℕ). inside lo hi e) ds h d a in
     record { low = leb→le lo d (both-left (leb lo d) (leb d hi) s); high = leb→le d hi (both-right (leb lo d) (leb d hi) s) }

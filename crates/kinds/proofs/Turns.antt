@@ -44,10 +44,10 @@ abbrev pub all : (ℕ → Bool) → List ℕ → Bool
 all t [] = true
 all t (m ∷ l) = t m && all t l
 
-both-left : (a b : Bool) → T (a && b) → T a
+pub both-left : (a b : Bool) → T (a && b) → T a
 both-left true b t = tt
 
-both-right : (a b : Bool) → T (a && b) → T b
+pub both-right : (a b : Bool) → T (a && b) → T b
 both-right true b t = t
 
 -- what a test says of each of them it says of one
