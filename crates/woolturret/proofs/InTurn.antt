@@ -79,7 +79,7 @@ module _ (file : List ℕ) (lim : ℕ) where
     module _ (clocks : List ℕ) where
       -- after the limit
       of-reading : Between 1 65535 lim → (y : Reading) → (numbered file lim xs cut clocks y ≡ 12 → ⊥) → First (StartRefused y file lim) (numbered file lim xs cut clocks y)
-      of-reading b (Malformed fault) w =
+      of-reading b (Malformed fault) = λ w.
           rw (malformed-14 fault) (first (answered (malformed refl)) (λ k r. in-order (14 ∷ []) answerNumbers record-ahead 14 k tt (after-limit b (Malformed fault) k r)))
       of-reading b (Config c) = by-places file lim xs cut clocks c (λ (n : ℕ). (n ≡ 12 → ⊥) → First (StartRefused (Config c) file lim) n)
           (λ l w. of-start c b l (startOf c file lim xs cut) (start-view c file lim xs cut) w)
