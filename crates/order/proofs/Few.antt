@@ -13,7 +13,7 @@ use Rattle.kinds.specs.declared.LSEClock.the-variants.{Oscillator}
 use Rattle.kinds.specs.declared.Choice48.{Choice48}
 use Rattle.kinds.specs.declared.Choice48.the-variants.{Pllq}
 use Rattle.clocks.specs.declared.InternalRCCConfig.{InternalRCCConfig}
-use Rattle.order.specs.Places.{HSION, HSEBYP, HSEON, PLLSAION, PLLI2SON, SW}
+use Rattle.order.specs.Places.{HSEBYP, HSEON, PLLSAION, PLLI2SON}
 use Rattle.order.specs.Order.{Op, put, wait, one, hsiOps, crystalOps, hseOps, pllOn, overOps, pllOps, lseOps, lsiOps, pllsaicfgr, saiOps, choiceOps, plli2scfgr, i2sOps, swOf, lastOps, opsOf, STORES, WAITS, storesOf, waits}
 use Rattle.order.proofs.Looks.{stores-both}
 use Rattle.order.proofs.ByKind.{hse-kinds, pll-kinds, lse-kinds, lsi-kinds, sai-kinds, choice-kinds, i2s-kinds}
@@ -131,15 +131,15 @@ module _ (d : CFGR) (y : InternalRCCConfig) where
   waits-least = list-counts .least-waits
 
 -- HSION, HSI's wait, SW = HSI: so at least two stores come before any other wait
-begins : (rest a b : List Op) (v w k : ℕ) → one v 1 ∷ wait 1 ∷ one w 0 ∷ rest ≡ a ++ wait k ∷ b → (k ≡ 1 → ⊥) → 2 ≤ length (storesOf a)
-begins rest [] b v w k e n = absurd (let q : _≡_ {A = ℕ} 0 1 = cc in omega arith)
-begins rest (o ∷ []) b v w k e n = absurd (n (let q : k ≡ 1 = cc in q))
-begins rest (o ∷ q ∷ []) b v w k e n = absurd (let z : _≡_ {A = ℕ} 0 1 = cc in omega arith)
-begins rest (o ∷ q ∷ t ∷ a) b v w k e n =
-    let i : o ≡ one v 1 = cc in
+begins : (rest a b : List Op) (s t : List (ℕ × ℕ)) (k : ℕ) → put s ∷ wait 1 ∷ put t ∷ rest ≡ a ++ wait k ∷ b → (k ≡ 1 → ⊥) → 2 ≤ length (storesOf a)
+begins rest [] b s t k e n = absurd (let q : _≡_ {A = ℕ} 0 1 = cc in omega arith)
+begins rest (o ∷ []) b s t k e n = absurd (n (let q : k ≡ 1 = cc in q))
+begins rest (o ∷ q ∷ []) b s t k e n = absurd (let z : _≡_ {A = ℕ} 0 1 = cc in omega arith)
+begins rest (o ∷ q ∷ u ∷ a) b s t k e n =
+    let i : o ≡ put s = cc in
     let j : q ≡ wait 1 = cc in
-    let h : t ≡ one w 0 = cc in
+    let h : u ≡ put t = cc in
     rw (i, j, h) (omega arith)
 
 pub two-before : (d : CFGR) (y : InternalRCCConfig) (a b : List Op) (k : ℕ) → opsOf d y ≡ a ++ wait k ∷ b → (k ≡ 1 → ⊥) → 2 ≤ length (storesOf a)
-two-before d y a b k e n = begins _ a b HSION SW k e n
+two-before d y a b k e n = begins _ a b _ _ k e n
