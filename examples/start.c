@@ -19,7 +19,7 @@ static const uint8_t record[WOOLTURRET_RECORD] = {
 static const uint32_t before[PLACES] = {[HSION] = 1, [PLLON] = 1, [SW] = 2, [LATENCY] = 5};
 
 /* Every wait, of which there are at most eight, is answered at its first poll. */
-static const uint8_t ready[8] = {1, 1, 1, 1, 1, 1, 1, 1};
+static const uint8_t ready[WOOLTURRET_WAITS] = {1, 1, 1, 1, 1, 1, 1, 1};
 
 struct attempt {
     struct woolturret_started came;

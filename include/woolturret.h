@@ -33,9 +33,13 @@
 
 /* Raised with every change of what a function here takes or answers. */
 #define WOOLTURRET_INTERFACE 1
+
+/* Numbers of a configuration, of the clocks and of a register file; the most waits of a start; bytes of the longest line and of a
+ * request record; numbers of a search's answer. */
 #define WOOLTURRET_CONFIG 30
 #define WOOLTURRET_CLOCKS 16
 #define WOOLTURRET_PLACES 35
+#define WOOLTURRET_WAITS 8
 #define WOOLTURRET_LINE 157
 #define WOOLTURRET_RECORD 64
 #define WOOLTURRET_SEARCH 5

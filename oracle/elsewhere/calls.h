@@ -6,7 +6,7 @@
 #include "woolturret.h"
 
 enum { SEARCH = 1, CHECK, SET, OUTPUT, CONFIGURE, DERIVE, PLAN, LINE, START };
-enum { MOST_BYTES = 256, BEYOND = 71, MOST_PLACES = 64, MOST_ANSWERS = 8 * 65535 };
+enum { MOST_BYTES = 256, BEYOND = 71, MOST_PLACES = 64, MOST_ANSWERS = WOOLTURRET_WAITS * 65535 };
 _Static_assert(WOOLTURRET_RECORD <= MOST_BYTES && WOOLTURRET_PLACES <= MOST_PLACES, "a record and a file go through whole");
 _Static_assert(WOOLTURRET_SEARCH <= WOOLTURRET_CONFIG, "a search's answer goes where a configuration does");
 

@@ -1,14 +1,12 @@
 -- The number of an answer is the first in turn of those that the table gives: 14 is alone where the bytes are malformed, else it is the plan's.
 use Prim.Native.Nat.{ℕ}
 use mathlib.Core.Path.{_≡_, refl, subst}
-use mathlib.Core.List.{_∷_}
 use native.Mathlib.Omega.{arith}
-use Rattle.kinds.specs.Turns.{turnOf, First, none, first, OneOf}
-use Rattle.kinds.proofs.Turns.{exactly, wider}
+use Rattle.kinds.specs.Turns.{First, none, first, OneOf}
+use Rattle.kinds.proofs.Turns.{wider}
 use Rattle.kinds.specs.declared.CFGR.{CFGR}
 use Rattle.plan.specs.Refusals.{PlanRefused, planNumbers}
 use Rattle.plan.proofs.Theorems.{plan-first, plan-number}
-use Rattle.record.specs.Reading.{readOf}
 use Rattle.record.specs.declared.Fault.{Fault}
 use Rattle.record.specs.declared.Reading.{Reading}
 use Rattle.record.specs.declared.Reading.the-variants.{Config, Malformed}

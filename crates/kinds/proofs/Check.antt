@@ -1,6 +1,6 @@
 -- The check gives the first in turn of document 01's table, and 0 exactly where every limit is kept: each limit by its range test, joined in the order of turns.
 use Prim.Native.Nat.{ℕ, zero, suc, _≤_, _<_}
-use mathlib.Core.Path.{_≡_, refl, subst}
+use mathlib.Core.Path.{_≡_, refl}
 use mathlib.Core.Logic.{_⊎_, inl, inr, _↔_}
 use mathlib.Core.Bool.{Bool, true, false, cond, _&&_}
 use mathlib.Core.List.{_∷_}
@@ -204,7 +204,11 @@ module _ (c : CFGR) where
       (joined (omega arith) _ _ (covers-asked 12500000 54000000 4 (omega arith) (c .requests .pclk1))
       (covers-asked 12500000 108000000 5 (omega arith) (c .requests .pclk2))))
 
-  covers : Covers All Given (turnOf 1) (turnOf 6) (checkOf c)
+  -- a is what the whole check comes to
+  abbrev Whole : ℕ → Type 0
+  Whole a = Covers All Given (turnOf 1) (turnOf 6) a
+
+  covers : Whole (checkOf c)
   unfolding checkOf turnOf
   covers =
       joined (omega arith) _ _ (one 1 (omega arith) (hse-told (c .sources .hse)))
@@ -275,7 +279,7 @@ module _ (c : CFGR) where
   pub check-first : First (Refused c) (checkOf c)
   check-first = at (checkOf c) covers
     where
-      at : (a : ℕ) → Covers All Given (turnOf 1) (turnOf 6) a → First (Refused c) a
+      at : (a : ℕ) → Whole a → First (Refused c) a
       at zero v = none (λ n r. v .none-given (v .kept refl) n (to-given n r))
       at (suc k) v = first (from-given (suc k) (v .given (omega arith))) (λ n r. v .first-given (omega arith) n (to-given n r))
 
@@ -334,6 +338,6 @@ module _ (c : CFGR) where
   pub told-check : Checked c → checkOf c ≡ 0
   told-check w = at (checkOf c) covers
     where
-      at : (a : ℕ) → Covers All Given (turnOf 1) (turnOf 6) a → a ≡ 0
+      at : (a : ℕ) → Whole a → a ≡ 0
       at zero v = refl
       at (suc k) v = absurd (v .none-given (kept-all w) (suc k) (v .given (omega arith)))

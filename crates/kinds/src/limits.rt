@@ -88,7 +88,7 @@ fn i2s_refusal(i: I2s) -> u8
 }
 
 impl CFGR {
-    // The least number of 1 to 6 that the configuration is refused with, or 0.
+    // The first in turn of 1 to 6 that the configuration is refused with, or 0.
     pub fn check(self) -> u8
         ensures { λ r. ⌜ r ≡ spec.checkOf self ⌝ }
     {

@@ -44,14 +44,14 @@ lastPlaces = MCO1 ∷ MCO1PRE ∷ MCO2 ∷ MCO2PRE ∷ LATENCY ∷ OTHER ∷ PPR
 
 -- ---- tests
 -- whether q is one of the places P
-abbrev pub has : ℕ → List ℕ → Bool
-has q [] = false
-has q (p ∷ P) = cond (eqb q p) true (has q P)
+abbrev pub hasPlace : ℕ → List ℕ → Bool
+hasPlace q [] = false
+hasPlace q (p ∷ P) = cond (eqb q p) true (hasPlace q P)
 
 -- no place of P is one of Q
 abbrev pub apart : List ℕ → List ℕ → Bool
 apart [] Q = true
-apart (p ∷ P) Q = cond (has p Q) false (apart P Q)
+apart (p ∷ P) Q = cond (hasPlace p Q) false (apart P Q)
 
 -- every place is one of the file's
 abbrev pub below : List ℕ → Bool
@@ -61,7 +61,7 @@ below (p ∷ P) = cond (ltb p PLACES) (below P) false
 -- every place named is one of P
 abbrev among : List ℕ → List (ℕ × ℕ) → Bool
 among P [] = true
-among P (w ∷ ws) = cond (has (w .0) P) (among P ws) false
+among P (w ∷ ws) = cond (hasPlace (w .0) P) (among P ws) false
 
 -- every place written is among the fields
 abbrev covers : List (ℕ × ℕ) → List (ℕ × ℕ) → Bool
@@ -113,62 +113,62 @@ second-held : (b c : Bool) → c ≡ true → cond b true c ≡ true
 second-held true c h = refl
 second-held false c h = h
 
-has-first : (q : ℕ) (P Q : List ℕ) → has q P ≡ true → has q (P ++ Q) ≡ true
+has-first : (q : ℕ) (P Q : List ℕ) → hasPlace q P ≡ true → hasPlace q (P ++ Q) ≡ true
 has-first q [] Q h = absurd (false≢true h)
-has-first q (p ∷ P) Q h = first-kept (eqb q p) (has q P) (has q (P ++ Q)) (λ i. has-first q P Q i) h
+has-first q (p ∷ P) Q h = first-kept (eqb q p) (hasPlace q P) (hasPlace q (P ++ Q)) (λ i. has-first q P Q i) h
 
-has-second : (q : ℕ) (P Q : List ℕ) → has q Q ≡ true → has q (P ++ Q) ≡ true
+has-second : (q : ℕ) (P Q : List ℕ) → hasPlace q Q ≡ true → hasPlace q (P ++ Q) ≡ true
 has-second q [] Q h = h
-has-second q (p ∷ P) Q h = second-held (eqb q p) (has q (P ++ Q)) (has-second q P Q h)
+has-second q (p ∷ P) Q h = second-held (eqb q p) (hasPlace q (P ++ Q)) (has-second q P Q h)
 
 among-first : (P Q : List ℕ) (W : List (ℕ × ℕ)) → among P W ≡ true → among (P ++ Q) W ≡ true
 among-first P Q [] h = refl
 among-first P Q (w ∷ W) h =
-    let s = both-told (has (w .0) P) (among P W) h in
-    both-true (has (w .0) (P ++ Q)) (among (P ++ Q) W) (has-first (w .0) P Q (s .0)) (among-first P Q W (s .1))
+    let s = both-told (hasPlace (w .0) P) (among P W) h in
+    both-true (hasPlace (w .0) (P ++ Q)) (among (P ++ Q) W) (has-first (w .0) P Q (s .0)) (among-first P Q W (s .1))
 
 among-second : (P Q : List ℕ) (W : List (ℕ × ℕ)) → among Q W ≡ true → among (P ++ Q) W ≡ true
 among-second P Q [] h = refl
 among-second P Q (w ∷ W) h =
-    let s = both-told (has (w .0) Q) (among Q W) h in
-    both-true (has (w .0) (P ++ Q)) (among (P ++ Q) W) (has-second (w .0) P Q (s .0)) (among-second P Q W (s .1))
+    let s = both-told (hasPlace (w .0) Q) (among Q W) h in
+    both-true (hasPlace (w .0) (P ++ Q)) (among (P ++ Q) W) (has-second (w .0) P Q (s .0)) (among-second P Q W (s .1))
 
 among-both : (P : List ℕ) (a b : List (ℕ × ℕ)) → among P a ≡ true → among P b ≡ true → among P (a ++ b) ≡ true
 among-both P [] b h k = k
 among-both P (w ∷ a) b h k =
-    let s = both-told (has (w .0) P) (among P a) h in both-true (has (w .0) P) (among P (a ++ b)) (s .0) (among-both P a b (s .1) k)
+    let s = both-told (hasPlace (w .0) P) (among P a) h in both-true (hasPlace (w .0) P) (among P (a ++ b)) (s .0) (among-both P a b (s .1) k)
 
 -- both sections' places
 among-join : (P Q : List ℕ) (a b : List (ℕ × ℕ)) → among P a ≡ true → among Q b ≡ true → among (P ++ Q) (a ++ b) ≡ true
 among-join P Q a b h k = among-both (P ++ Q) a b (among-first P Q a h) (among-second P Q b k)
 
 -- a place of P is none of Q
-not-both : (q : ℕ) (P Q : List ℕ) → apart P Q ≡ true → has q P ≡ true → has q Q ≡ false
+not-both : (q : ℕ) (P Q : List ℕ) → apart P Q ≡ true → hasPlace q P ≡ true → hasPlace q Q ≡ false
 not-both q [] Q a h = absurd (false≢true h)
-not-both q (p ∷ P) Q a h = by (eqb q p) refl h (has p Q) refl a (λ i j. not-both q P Q i j)
+not-both q (p ∷ P) Q a h = by (eqb q p) refl h (hasPlace p Q) refl a (λ i j. not-both q P Q i j)
   where
-    by : (b : Bool) → eqb q p ≡ b → cond b true (has q P) ≡ true → (c : Bool) → has p Q ≡ c → cond c false (apart P Q) ≡ true
-        → (apart P Q ≡ true → has q P ≡ true → has q Q ≡ false) → has q Q ≡ false
+    by : (b : Bool) → eqb q p ≡ b → cond b true (hasPlace q P) ≡ true → (c : Bool) → hasPlace p Q ≡ c → cond c false (apart P Q) ≡ true
+        → (apart P Q ≡ true → hasPlace q P ≡ true → hasPlace q Q ≡ false) → hasPlace q Q ≡ false
     by b e h true i a ih = absurd (false≢true a)
-    by true e h false i a ih = ap (λ (t : ℕ). has t Q) (eqb-true q p e) ∙ i
+    by true e h false i a ih = ap (λ (t : ℕ). hasPlace t Q) (eqb-true q p e) ∙ i
     by false e h false i a ih = ih a h
 
 -- a place that is none of P is not written by what writes P alone
-elsewhere : (q : ℕ) (P : List ℕ) (W : List (ℕ × ℕ)) → has q P ≡ false → among P W ≡ true → names q W ≡ false
+elsewhere : (q : ℕ) (P : List ℕ) (W : List (ℕ × ℕ)) → hasPlace q P ≡ false → among P W ≡ true → names q W ≡ false
 elsewhere q P [] n h = refl
 elsewhere q P (w ∷ W) n h =
-    let s = both-told (has (w .0) P) (among P W) h in
-    neither (eqb q (w .0)) (names q W) (ne-eqb q (w .0) (λ (k : q ≡ w .0). true≢false (sym (s .0) ∙ sym (ap (λ (t : ℕ). has t P) k) ∙ n))) (elsewhere q P W n (s .1))
+    let s = both-told (hasPlace (w .0) P) (among P W) h in
+    neither (eqb q (w .0)) (names q W) (ne-eqb q (w .0) (λ (k : q ≡ w .0). true≢false (sym (s .0) ∙ sym (ap (λ (t : ℕ). hasPlace t P) k) ∙ n))) (elsewhere q P W n (s .1))
 
-pub not-here : {P : List ℕ} {os : List Op} {F : List (ℕ × ℕ)} (q : ℕ) → has q P ≡ false → Section P os F → names q (written os) ≡ false
+pub not-here : {P : List ℕ} {os : List Op} {F : List (ℕ × ℕ)} (q : ℕ) → hasPlace q P ≡ false → Section P os F → names q (written os) ≡ false
 not-here {P} {os} q n s = elsewhere q P (written os) n (s .inside)
 
-in-file : (q : ℕ) (P : List ℕ) → below P ≡ true → has q P ≡ true → q < PLACES
+in-file : (q : ℕ) (P : List ℕ) → below P ≡ true → hasPlace q P ≡ true → q < PLACES
 in-file q [] b h = absurd (false≢true h)
 in-file q (p ∷ P) b h =
     let s = both-told (ltb p PLACES) (below P) b in by (eqb q p) refl h (ltb-true p PLACES (s .0)) (λ i. in-file q P (s .1) i)
   where
-    by : (c : Bool) → eqb q p ≡ c → cond c true (has q P) ≡ true → p < PLACES → (has q P ≡ true → q < PLACES) → q < PLACES
+    by : (c : Bool) → eqb q p ≡ c → cond c true (hasPlace q P) ≡ true → p < PLACES → (hasPlace q P ≡ true → q < PLACES) → q < PLACES
     by true e i l ih = rw (eqb-true q p e) l
     by false e i l ih = ih i
 
@@ -186,7 +186,7 @@ makes-after a b (w ∷ F) m = (λ v. look-both (w .0) a b v ∙ m .0 (look (w .0
 makes-before : (P Q : List ℕ) (a b F : List (ℕ × ℕ)) → apart P Q ≡ true → among P F ≡ true → among Q b ≡ true → Makes a F → Makes (a ++ b) F
 makes-before P Q a b [] n u h m = tt
 makes-before P Q a b (w ∷ F) n u h m =
-    let s = both-told (has (w .0) P) (among P F) u in
+    let s = both-told (hasPlace (w .0) P) (among P F) u in
     let k = elsewhere (w .0) Q b (not-both (w .0) P Q n (s .0)) h in
     (λ v. look-both (w .0) a b v ∙ look-past (w .0) b (look (w .0) a v) k ∙ m .0 v, makes-before P Q a b F n (s .1) h (m .1))
 
@@ -228,7 +228,7 @@ then {P} {Q} {os} {ps} {F} {G} s r n =
     }
 
 -- HSION and SW = HSI come first, and SW is stored again
-pub begins : {Q : List ℕ} {ps : List Op} {G : List (ℕ × ℕ)} → Rest Q ps G → has HSION Q ≡ false → Whole (hsiPlaces ++ Q) (hsiOps ++ ps) (hsiFields ++ G)
+pub begins : {Q : List ℕ} {ps : List Op} {G : List (ℕ × ℕ)} → Rest Q ps G → hasPlace HSION Q ≡ false → Whole (hsiPlaces ++ Q) (hsiOps ++ ps) (hsiFields ++ G)
 begins {Q} {ps} {G} r n =
     record {
       fields = among-join hsiPlaces Q hsiFields G refl (r .fields);
@@ -242,6 +242,6 @@ begins {Q} {ps} {G} r n =
 pub holds : (P : List ℕ) (W F : List (ℕ × ℕ)) (f : List ℕ) → length f ≡ PLACES → below P ≡ true → among P F ≡ true → Makes W F → Holds F (writes f W)
 holds P W [] f l b u m = tt
 holds P W (w ∷ F) f l b u m =
-    let s = both-told (has (w .0) P) (among P F) u in
+    let s = both-told (hasPlace (w .0) P) (among P F) u in
     let k = in-file (w .0) P b (s .0) in
     (at-writes f W (w .0) (omega (arith, l, k)) ∙ m .0 (getD f (w .0) 0), holds P W F f l b (s .1) (m .1))

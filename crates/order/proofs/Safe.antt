@@ -18,7 +18,7 @@ use Rattle.order.specs.Safe.{PllSet, OverSet, Settled, Safe, hsi, own}
 use Rattle.order.proofs.Restart.{flat}
 use Rattle.order.proofs.Looks.{written, flat-both, stores-both, names-both, quiet-cut}
 use Rattle.order.proofs.ByKind.{pllHeld}
-use Rattle.order.proofs.Homes.{has, Section, not-here}
+use Rattle.order.proofs.Homes.{hasPlace, Section, not-here}
 use Rattle.order.proofs.Touched.{hse-section, pll-section, lse-section, lsi-section, sai-section, choice-section, i2s-section, list-holds}
 
 -- a list with one store at its end is cut before that store, or not at all
@@ -54,7 +54,7 @@ ends : (os : List Op) (ws : Store) → storesOf os ≡ but-last (storesOf os) ++
 ends os ws e n = record { stores = but-last (storesOf os); is = e; quiet = n }
 
 -- a section ahead that has no place SW
-ahead : {P : List ℕ} {os ps : List Op} {F : List (ℕ × ℕ)} {ws : Store} → Section P os F → Ends ps ws → has SW P ≡ false → Ends (os ++ ps) ws
+ahead : {P : List ℕ} {os ps : List Op} {F : List (ℕ × ℕ)} {ws : Store} → Section P os F → Ends ps ws → hasPlace SW P ≡ false → Ends (os ++ ps) ws
 ahead {P} {os} {ps} {F} {ws} s r n =
     record {
       stores = storesOf os ++ r .stores;

@@ -11,9 +11,9 @@ use Rattle.configure.specs.Configure.{pWindowOf, takenOf, keptOf, settledOf, ba
 use Rattle.clocks.specs.Ratio.{round24, ratioUp}
 use Rattle.clocks.specs.Rows.{hpreRow, ppreRow}
 use Rattle.clocks.specs.Derive.{sysclkOf, wantedOf, hpreOf, ahbFor, capOf, timclkOf, apbFor, waitStatesOf, scaleOf, validOf, ahbOf, apb1Of, apb2Of, clocksOf, configOf, settledOf as derivedAs, derivedOf}
-use Rattle.plan.specs.Plan.{roughOf, saiLate, i2sLate, limitsOf, limitedOf, clockedOf, plannedOf, planOf}
+use Rattle.plan.specs.Plan.{roughOf, saiLate, i2sLate, lateRefusal, limitedOf, clockedOf, plannedOf, planOf}
 use Rattle.plan.specs.Examples.{shown, examples}
 
 pub examples-hold : map (λ e. shown (planOf (e .config))) examples ≡ map (λ e. e .answer) examples
-unfolding size inputOf outsideOf firstOf checkOf recipOf vcoOf outOf baseOf pOutputOf first seek join judge look walk entered searchOf pWindowOf takenOf keptOf settledOf baseIn wantedIn pWindowIn qWindowIn fitsIn chosenOf configuredOf round24 ratioUp hpreRow ppreRow sysclkOf wantedOf hpreOf ahbFor capOf timclkOf apbFor waitStatesOf scaleOf validOf ahbOf apb1Of apb2Of clocksOf configOf derivedAs derivedOf roughOf saiLate i2sLate limitsOf limitedOf clockedOf plannedOf planOf
+unfolding size inputOf outsideOf firstOf checkOf recipOf vcoOf outOf baseOf pOutputOf first seek join judge look walk entered searchOf pWindowOf takenOf keptOf settledOf baseIn wantedIn pWindowIn qWindowIn fitsIn chosenOf configuredOf round24 ratioUp hpreRow ppreRow sysclkOf wantedOf hpreOf ahbFor capOf timclkOf apbFor waitStatesOf scaleOf validOf ahbOf apb1Of apb2Of clocksOf configOf derivedAs derivedOf roughOf saiLate i2sLate lateRefusal limitedOf clockedOf plannedOf planOf
 examples-hold = refl

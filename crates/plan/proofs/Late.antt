@@ -1,4 +1,4 @@
--- `limitsOf` is the first in turn of 9 to 11 that are given: first PLLSAI, then PLLI2S, then both.
+-- `lateRefusal` is the first in turn of 9 to 11 that are given: first PLLSAI, then PLLI2S, then both.
 use Prim.Native.Nat.{ℕ, _/_, _≤_}
 use mathlib.Core.Path.{_≡_, refl}
 use mathlib.Core.Logic.{inl, inr}
@@ -11,7 +11,7 @@ use Rattle.kinds.specs.Table.{Between, Outside}
 use Rattle.kinds.specs.Turns.{turnOf, First, none, first, OneOf}
 use Rattle.kinds.proofs.Check.{Told, inside, broken, outside-told}
 use Rattle.kinds.specs.declared.CFGR.{CFGR}
-use Rattle.plan.specs.Plan.{saiLate, i2sLate, limitsOf}
+use Rattle.plan.specs.Plan.{saiLate, i2sLate, lateRefusal}
 use Rattle.plan.specs.Refusals.{roughIn, SaiVco, SaiP, I2sVco, Late, sai-vco, sai-p, i2s-vco, lateNumbers}
 
 unused : (t : Bool) → t ≡ false → t ≡ true → ⊥
@@ -93,6 +93,6 @@ module _ (d : CFGR) where
   late-number n (sai-p x) = tt
   late-number n (i2s-vco x) = tt
 
-  pub late-first : First (Late d) (limitsOf d)
-  unfolding limitsOf
+  pub late-first : First (Late d) (lateRefusal d)
+  unfolding lateRefusal
   late-first = both _ _ sai-view i2s-view

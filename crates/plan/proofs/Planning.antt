@@ -21,7 +21,7 @@ use Rattle.clocks.specs.declared.Derived.{Derived}
 use Rattle.clocks.specs.declared.Derived.the-variants.{Refused as NotDerived, At}
 use Rattle.clocks.specs.Numbers.{derivedNumber}
 use Rattle.clocks.proofs.Theorems.{derive-accepts-exactly}
-use Rattle.plan.specs.Plan.{roughOf, saiLate, i2sLate, limitsOf, limitedOf, clockedOf, plannedOf, planOf}
+use Rattle.plan.specs.Plan.{roughOf, saiLate, i2sLate, lateRefusal, limitedOf, clockedOf, plannedOf, planOf}
 use Rattle.plan.specs.declared.Planned.{Planned}
 use Rattle.plan.specs.declared.Planned.the-variants.{Refused}
 
@@ -49,8 +49,8 @@ i2s-off f m i e = rw e
 pub limits-ask : (c : CFGR) → Checked c → {f : ℕ} (n : ℕ) → f ≡ inputOf (c .sources .hse) → n ≤ 432 → (f ≤ 50000000) × (2 ≤ c .pll .m .0) × (n ≤ 432)
 limits-ask c k n e h = (rw e (input-within (c .sources .hse) (k .hse) .high), k .pll .m .low, h)
 
-pub limits-are : (c : CFGR) {r f x y : ℕ} → r ≡ firstOf x y → x ≡ saiLate f (c .pll .m .0) (c .sai) → y ≡ i2sLate f (c .pll .m .0) (c .i2s) → f ≡ inputOf (c .sources .hse) → r ≡ limitsOf c
-unfolding limitsOf
+pub limits-are : (c : CFGR) {r f x y : ℕ} → r ≡ firstOf x y → x ≡ saiLate f (c .pll .m .0) (c .sai) → y ≡ i2sLate f (c .pll .m .0) (c .i2s) → f ≡ inputOf (c .sources .hse) → r ≡ lateRefusal c
+unfolding lateRefusal
 limits-are c a b d e = a ∙ rw (b, d, e)
 
 -- ---- the whole
@@ -65,7 +65,7 @@ pub clocked-refused : (c : CFGR) (k n : ℕ) {d : Derived} → d ≡ derivedOf c
 unfolding clockedOf
 clocked-refused c k n a b = let e : derivedOf c ≡ NotDerived n = sym a ∙ b in rw e
 
-pub clocked-at : (c : CFGR) (k : ℕ) {n : ℕ} {d : Derived} {x : Clocks} {y : InternalRCCConfig} {r : Planned} → d ≡ derivedOf c → d ≡ At x y → r ≡ limitedOf c k x y n → n ≡ limitsOf c → r ≡ clockedOf c k (derivedOf c)
+pub clocked-at : (c : CFGR) (k : ℕ) {n : ℕ} {d : Derived} {x : Clocks} {y : InternalRCCConfig} {r : Planned} → d ≡ derivedOf c → d ≡ At x y → r ≡ limitedOf c k x y n → n ≡ lateRefusal c → r ≡ clockedOf c k (derivedOf c)
 unfolding clockedOf
 clocked-at c k {x = x} {y = y} a b g h = let e : derivedOf c ≡ At x y = sym a ∙ b in g ∙ rw (e, h)
 

@@ -26,7 +26,7 @@ use Rattle.clocks.specs.declared.Clocks.{Clocks}
 use Rattle.clocks.specs.declared.InternalRCCConfig.{InternalRCCConfig}
 use Rattle.clocks.specs.declared.Derived.{Derived}
 use Rattle.clocks.specs.declared.Derived.the-variants.{Refused as NotDerived, At}
-use Rattle.plan.specs.Plan.{limitsOf, limitedOf, clockedOf, plannedOf, planOf, numberOf, passesOf}
+use Rattle.plan.specs.Plan.{lateRefusal, limitedOf, clockedOf, plannedOf, planOf, numberOf, passesOf}
 use Rattle.plan.specs.Refusals.{roughIn, Late, i2s-vco, lateNumbers, PlanRefused, limit, search, late, planNumbers}
 use Rattle.plan.specs.declared.Planned.{Planned}
 use Rattle.plan.specs.declared.Planned.the-variants.{Refused, Ready}
@@ -76,7 +76,7 @@ plan-first c = from (planOf c) (plan-view c)
     from : (p : Planned) → PlanView c p → First (PlanRefused c) (numberOf p)
     from p (refused z) = limits (checkOf c) (check-first c) z
     from p (missed s g) = first (search s g) (unfound s)
-    from p (limited {d = d} {k = k} e z) = lates d k e (limitsOf d) (late-first d)
+    from p (limited {d = d} {k = k} e z) = lates d k e (lateRefusal d) (late-first d)
     from p (ready {d = d} {k = k} e z) = lates d k e 0 (subst (λ (n : ℕ). First (Late d) n) z (late-first d))
 
 -- so it is n exactly if n is the first in turn of those given
@@ -100,10 +100,10 @@ plan-accepts-exactly c = (λ e. forth (planOf c) (plan-view c) e, λ w. back (w 
     forth p (refused z) e = absurd (z e)
     forth p (missed s g) e = absurd (omega arith)
     forth p (limited a z) e = absurd (z e)
-    forth p (ready {d = d} {k = k} a z) e = (d, k, a, unlimited d (limitsOf d) (late-first d) z)
+    forth p (ready {d = d} {k = k} a z) e = (d, k, a, unlimited d (lateRefusal d) (late-first d) z)
 
     back : (d : CFGR) (k : ℕ) → Settles c d k → ((n : ℕ) → Late d n → ⊥) → numberOf (planOf c) ≡ 0
-    back d k a f = ap (λ (p : Planned). numberOf p) (plan-of c d k a (zero d (limitsOf d) (late-first d) f))
+    back d k a f = ap (λ (p : Planned). numberOf p) (plan-of c d k a (zero d (lateRefusal d) (late-first d) f))
 
 -- a refusal has a number that is not 0
 pub refused-is-not-0 : (c : CFGR) (n k : ℕ) → planOf c ≡ Refused n k → n ≡ 0 → ⊥
@@ -147,7 +147,7 @@ passes-are-configure's c = from (configuredOf c)
 
     at : (d : CFGR) (k : ℕ) (z : Derived) → passesOf (clockedOf d k z) ≡ k
     at d k (NotDerived n) = refl
-    at d k (At x y) = by (eqb (limitsOf d) 0) d (limitsOf d) k x y
+    at d k (At x y) = by (eqb (lateRefusal d) 0) d (lateRefusal d) k x y
 
     from : (f : Configured) → passesOf (plannedOf f) ≡ configuredPasses f
     from (NotConfigured n k) = refl
@@ -158,7 +158,7 @@ module _ (c d : CFGR) (k : ℕ) (x : Clocks) (y : InternalRCCConfig) (e : planOf
   -- what it is made of
   record Made : Type 0 where
     plans : Settles c d k
-    unlimited : limitsOf d ≡ 0
+    unlimited : lateRefusal d ≡ 0
     clocks : clocksOf d ≡ x
     config : configOf d ≡ y
 
@@ -172,7 +172,7 @@ module _ (c d : CFGR) (k : ℕ) (x : Clocks) (y : InternalRCCConfig) (e : planOf
       from p (ready {d = f} {k = j} a z) h =
           let g : f ≡ d = cc in
           let i : j ≡ k = cc in
-          record { plans = a ∙ both g i; unlimited = subst (λ (w : CFGR). limitsOf w ≡ 0) g z; clocks = cc; config = cc }
+          record { plans = a ∙ both g i; unlimited = subst (λ (w : CFGR). lateRefusal w ≡ 0) g z; clocks = cc; config = cc }
         where
           both : {a b : CFGR} {m n : ℕ} → a ≡ b → m ≡ n → Configures a m ≡ Configures b n
           both p q = rw (p, q)
@@ -223,7 +223,7 @@ module _ (c d : CFGR) (k : ℕ) (x : Clocks) (y : InternalRCCConfig) (e : planOf
   i2s-high u = from (split 432000000 (roughIn d (d .i2s .n .0)))
     where
       from : (432000000 < roughIn d (d .i2s .n .0)) ⊎ (roughIn d (d .i2s .n .0) ≤ 432000000) → roughIn d (d .i2s .n .0) ≤ 432000000
-      from (inl h) = absurd (unlimited d (limitsOf d) (late-first d) (made .unlimited) 11 (i2s-vco (u, inr h)))
+      from (inl h) = absurd (unlimited d (lateRefusal d) (late-first d) (made .unlimited) 11 (i2s-vco (u, inr h)))
       from (inr h) = h
 
   pub i2s-outputs : d .i2s .use_plli2s ≡ true → (roughIn d (d .i2s .n .0) / d .i2s .r .0 ≤ 216000000) × (roughIn d (d .i2s .n .0) / d .i2s .q .0 ≤ 216000000)

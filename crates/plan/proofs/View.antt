@@ -20,7 +20,7 @@ use Rattle.clocks.specs.Derive.{sysclkOf, clocksOf, configOf, derivedOf}
 use Rattle.clocks.specs.declared.Derived.{Derived}
 use Rattle.clocks.specs.declared.Derived.the-variants.{At}
 use Rattle.clocks.proofs.Theorems.{derive-gives}
-use Rattle.plan.specs.Plan.{limitsOf, limitedOf, clockedOf, plannedOf, planOf}
+use Rattle.plan.specs.Plan.{lateRefusal, limitedOf, clockedOf, plannedOf, planOf}
 use Rattle.plan.specs.declared.Planned.{Planned}
 use Rattle.plan.specs.declared.Planned.the-variants.{Refused, Ready}
 
@@ -40,17 +40,17 @@ planned-derived c d k e = derive-gives d (planned-checked c d k e) (planned-sysc
 pub data PlanView (c : CFGR) : Planned → Type 0 where
   refused : (checkOf c ≡ 0 → ⊥) → PlanView c (Refused (checkOf c) 0)
   missed : {k : ℕ} → Seeks c → NoneGood c → PlanView c (Refused 7 k)
-  limited : {d : CFGR} {k : ℕ} → Settles c d k → (limitsOf d ≡ 0 → ⊥) → PlanView c (Refused (limitsOf d) k)
-  ready : {d : CFGR} {k : ℕ} → Settles c d k → limitsOf d ≡ 0 → PlanView c (Ready d k (clocksOf d) (configOf d))
+  limited : {d : CFGR} {k : ℕ} → Settles c d k → (lateRefusal d ≡ 0 → ⊥) → PlanView c (Refused (lateRefusal d) k)
+  ready : {d : CFGR} {k : ℕ} → Settles c d k → lateRefusal d ≡ 0 → PlanView c (Ready d k (clocksOf d) (configOf d))
 
 module _ (c : CFGR) where
   clocked-view : (d : CFGR) (k : ℕ) → Settles c d k → PlanView c (clockedOf d k (derivedOf d))
   unfolding clockedOf limitedOf
-  clocked-view d k e = subst (λ (z : Derived). PlanView c (clockedOf d k z)) (sym (planned-derived c d k e)) (at (eqb (limitsOf d) 0) refl)
+  clocked-view d k e = subst (λ (z : Derived). PlanView c (clockedOf d k z)) (sym (planned-derived c d k e)) (at (eqb (lateRefusal d) 0) refl)
     where
-      at : (t : Bool) → eqb (limitsOf d) 0 ≡ t → PlanView c (cond t (Ready d k (clocksOf d) (configOf d)) (Refused (limitsOf d) k))
-      at true a = ready e (eqb-true (limitsOf d) 0 a)
-      at false a = limited e (eqb-false (limitsOf d) 0 a)
+      at : (t : Bool) → eqb (lateRefusal d) 0 ≡ t → PlanView c (cond t (Ready d k (clocksOf d) (configOf d)) (Refused (lateRefusal d) k))
+      at true a = ready e (eqb-true (lateRefusal d) 0 a)
+      at false a = limited e (eqb-false (lateRefusal d) 0 a)
 
   refused-view : {n k : ℕ} → configuredOf c ≡ NotConfigured n k → Ways c (NotConfigured n k) → PlanView c (Refused n k)
   refused-view e (check-refused a) = refused a
@@ -65,6 +65,6 @@ module _ (c : CFGR) where
       from (Configures d k) e = clocked-view d k e
 
 -- what a plan is made of
-pub plan-of : (c d : CFGR) (k : ℕ) → Settles c d k → limitsOf d ≡ 0 → planOf c ≡ Ready d k (clocksOf d) (configOf d)
+pub plan-of : (c d : CFGR) (k : ℕ) → Settles c d k → lateRefusal d ≡ 0 → planOf c ≡ Ready d k (clocksOf d) (configOf d)
 unfolding planOf plannedOf clockedOf limitedOf
 plan-of c d k e z = rw (e, planned-derived c d k e) (simp (eq-eqb _ _ z))

@@ -36,8 +36,8 @@ unfoldable pub i2sLate : ℕ → ℕ → I2s → ℕ
 i2sLate f m i = cond (i .use_plli2s) (outsideOf 192000000 432000000 11 (roughOf f m (i .n .0))) 0
 
 -- several at once: the first in turn
-unfoldable pub limitsOf : CFGR → ℕ
-limitsOf c = firstOf (saiLate (inputOf (c .sources .hse)) (c .pll .m .0) (c .sai)) (i2sLate (inputOf (c .sources .hse)) (c .pll .m .0) (c .i2s))
+unfoldable pub lateRefusal : CFGR → ℕ
+lateRefusal c = firstOf (saiLate (inputOf (c .sources .hse)) (c .pll .m .0) (c .sai)) (i2sLate (inputOf (c .sources .hse)) (c .pll .m .0) (c .i2s))
 
 unfoldable pub limitedOf : CFGR → ℕ → Clocks → InternalRCCConfig → ℕ → Planned
 limitedOf c k x y n = cond (eqb n 0) (Ready c k x y) (Refused n k)
@@ -45,7 +45,7 @@ limitedOf c k x y n = cond (eqb n 0) (Ready c k x y) (Refused n k)
 -- 9 to 11 are checked with the M planned, after what derive refuses
 unfoldable pub clockedOf : CFGR → ℕ → Derived → Planned
 clockedOf c k (NotDerived n) = Refused n k
-clockedOf c k (At x y) = limitedOf c k x y (limitsOf c)
+clockedOf c k (At x y) = limitedOf c k x y (lateRefusal c)
 
 -- 1 to 6, then 7, then what the configuration as planned comes to
 unfoldable pub plannedOf : Configured → Planned

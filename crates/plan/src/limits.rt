@@ -11,7 +11,7 @@ ghost use mathlib.Core.Path.{_≡_};
 ghost use Prim.Native.Nat.{_≤_};
 ghost use Rattle.kinds.specs.Limits.{outsideOf};
 ghost use Rattle.kinds.specs.Table.{Checked};
-ghost use Rattle.plan.specs.Plan.{roughOf, saiLate, i2sLate, limitsOf};
+ghost use Rattle.plan.specs.Plan.{roughOf, saiLate, i2sLate, lateRefusal};
 
 // floor(input/M) × N: the input is not cut to a multiple of 16.
 fn rough(input: Hertz, m: Divider, n: Factor) -> u64
@@ -65,10 +65,10 @@ fn i2s_late(input: Hertz, m: Divider, i2s: I2s) -> u8
     }
 }
 
-// The least of 9 to 11 that a configuration as planned is refused with, or 0.
+// The first in turn of 9 to 11 that a configuration as planned is refused with, or 0.
 pub(crate) fn late_refusal(cfgr: CFGR) -> u8
     requires { ⌜ Checked cfgr ⌝ }
-    ensures { λ r. ⌜ r ≡ limitsOf cfgr ⌝ }
+    ensures { λ r. ⌜ r ≡ lateRefusal cfgr ⌝ }
 {
     let sources = cfgr.sources;
     let hse = sources.hse;

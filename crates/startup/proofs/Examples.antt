@@ -26,7 +26,7 @@ use Rattle.clocks.specs.Rows.{hpreRow, ppreRow}
 use Rattle.clocks.specs.Derive.{sysclkOf, wantedOf, hpreOf, ahbFor, capOf, timclkOf, apbFor, waitStatesOf, scaleOf, validOf, ahbOf, apb1Of, apb2Of, clocksOf, configOf, settledOf as derivedAs, derivedOf}
 use Rattle.clocks.specs.declared.Clocks.{Clocks}
 use Rattle.clocks.specs.declared.InternalRCCConfig.{InternalRCCConfig}
-use Rattle.plan.specs.Plan.{roughOf, saiLate, i2sLate, limitsOf, limitedOf, clockedOf, plannedOf, planOf}
+use Rattle.plan.specs.Plan.{roughOf, saiLate, i2sLate, lateRefusal, limitedOf, clockedOf, plannedOf, planOf}
 use Rattle.order.specs.Places.{PLACES}
 use Rattle.startup.specs.Start.{plannedStart, startOf}
 use Rattle.order.specs.Safe.{Safe, hsi, own}
@@ -75,7 +75,7 @@ starts :
     (startOf full nines 3 (replicate 8 1) 24 ≡ record { outcome = Done clocks codes; polls = 8; file = made })
     × (startOf full nines 3 (replicate 8 1) 23 ≡ record { outcome = Cut clocks codes; polls = 7; file = made })
     × (startOf full nines 3 (1 ∷ 0 ∷ 2 ∷ []) 24 ≡ record { outcome = Unanswered 2; polls = 4; file = 1 ∷ 1 ∷ 1 ∷ 9 ∷ 9 ∷ 9 ∷ 0 ∷ replicate 28 9 })
-unfolding size inputOf outsideOf firstOf checkOf recipOf vcoOf outOf baseOf pOutputOf first seek join judge look searchWalk entered searchOf pWindowOf takenOf keptOf settledOf baseIn wantedIn pWindowIn qWindowIn fitsIn chosenOf configuredOf round24 ratioUp hpreRow ppreRow sysclkOf wantedOf hpreOf ahbFor capOf timclkOf apbFor waitStatesOf scaleOf validOf ahbOf apb1Of apb2Of clocksOf configOf derivedAs derivedOf roughOf saiLate i2sLate limitsOf limitedOf clockedOf plannedOf planOf plannedStart startOf
+unfolding size inputOf outsideOf firstOf checkOf recipOf vcoOf outOf baseOf pOutputOf first seek join judge look searchWalk entered searchOf pWindowOf takenOf keptOf settledOf baseIn wantedIn pWindowIn qWindowIn fitsIn chosenOf configuredOf round24 ratioUp hpreRow ppreRow sysclkOf wantedOf hpreOf ahbFor capOf timclkOf apbFor waitStatesOf scaleOf validOf ahbOf apb1Of apb2Of clocksOf configOf derivedAs derivedOf roughOf saiLate i2sLate lateRefusal limitedOf clockedOf plannedOf planOf plannedStart startOf
 starts = (refl, refl, refl)
 
 -- and a file that is not safe there is

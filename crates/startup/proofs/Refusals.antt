@@ -15,7 +15,7 @@ use Rattle.plan.specs.Refusals.{PlanRefused, planNumbers}
 use Rattle.plan.specs.declared.Planned.{Planned}
 use Rattle.plan.specs.declared.Planned.the-variants.{Refused as NotPlanned, Ready}
 use Rattle.plan.proofs.Theorems.{plan-refuses-exactly, plan-gives-only}
-use Rattle.order.specs.Order.{opsOf}
+use Rattle.order.specs.Order.{WAITS, opsOf}
 use Rattle.startup.specs.Start.{Ending, at-end, at-cut, at-wait, walk, outcomeOf, startOf, startNumbers, numberOf}
 use Rattle.startup.specs.Cuts.{Leaves, before, Silent}
 use Rattle.startup.specs.declared.Outcome.the-variants.{Unanswered}
@@ -108,16 +108,16 @@ module _ (c : CFGR) (f : List ℕ) (lim : ℕ) (xs : List ℕ) (cut : ℕ) where
       from r (not-planned b p) z w = (refl, refl)
       from r (ran {d = d} {x = x} {y = y} b p) z w = absurd (walked x y (walk lim (opsOf d y) cut xs f .ending) z w)
 
-  -- 12 names a wait of document 01's eight
-  pub unanswered-named : (k : ℕ) → startOf c f lim xs cut .outcome ≡ Unanswered k → Between 1 8 k
+  -- 12 names a wait of the list's
+  pub unanswered-named : (k : ℕ) → startOf c f lim xs cut .outcome ≡ Unanswered k → Between 1 WAITS k
   unanswered-named k = from (startOf c f lim xs cut) (start-view c f lim xs cut)
     where
-      walked : (d : CFGR) (x : Clocks) (y : InternalRCCConfig) (e : Ending) (g : List ℕ) → Leaves (opsOf d y) cut f e g → outcomeOf x y e ≡ Unanswered k → Between 1 8 k
+      walked : (d : CFGR) (x : Clocks) (y : InternalRCCConfig) (e : Ending) (g : List ℕ) → Leaves (opsOf d y) cut f e g → outcomeOf x y e ≡ Unanswered k → Between 1 WAITS k
       walked d x y at-end g l h = absurd (let q : _≡_ {A = ℕ} 0 1 = cc in omega arith)
       walked d x y at-cut g l h = absurd (let q : _≡_ {A = ℕ} 0 1 = cc in omega arith)
       walked d x y (at-wait j) g (before a b u i) h = let q : j ≡ k = cc in let r = wait-named d y a b j u in record { low = omega (arith, r .low); high = omega (arith, r .high) }
 
-      from : (r : Started) → StartView c f lim xs cut r → r .outcome ≡ Unanswered k → Between 1 8 k
+      from : (r : Started) → StartView c f lim xs cut r → r .outcome ≡ Unanswered k → Between 1 WAITS k
       from r (bad-limit o) h = absurd (let q : _≡_ {A = ℕ} 0 1 = cc in omega arith)
       from r (not-planned b p) h = absurd (let q : _≡_ {A = ℕ} 0 1 = cc in omega arith)
       from r (ran {d = d} {x = x} {y = y} b p) h = walked d x y (walk lim (opsOf d y) cut xs f .ending) (walk lim (opsOf d y) cut xs f .file) (leaves lim (opsOf d y) cut xs f) h

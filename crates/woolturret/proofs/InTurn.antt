@@ -8,9 +8,7 @@ use Rattle.kinds.specs.Table.{Between}
 use Rattle.kinds.specs.Turns.{turnOf, First, none, first, OneOf}
 use Rattle.kinds.proofs.Turns.{wider, ahead, in-order}
 use Rattle.kinds.specs.declared.CFGR.{CFGR}
-use Rattle.clocks.specs.declared.Clocks.{Clocks}
-use Rattle.clocks.specs.declared.InternalRCCConfig.{InternalRCCConfig}
-use Rattle.plan.specs.Plan.{planOf, numberOf as planNumber}
+use Rattle.plan.specs.Plan.{numberOf as planNumber}
 use Rattle.plan.specs.declared.Planned.{Planned}
 use Rattle.order.specs.Order.{opsOf}
 use Rattle.order.specs.Places.{PLACES}
