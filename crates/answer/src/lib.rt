@@ -1,4 +1,6 @@
 // Document 01, "Request record", the program's line: what the bytes of one record are answered with, as a value and as its line.
+#![tactic(auto)]
+
 ghost use Rattle.std.specs.Prelude.{◌≡◌, ◌+◌, ◌≤◌, length};
 ghost use Rattle.text.specs.Line as line;
 ghost use Rattle.text.specs.Placing.{Placing};
@@ -13,7 +15,7 @@ use text::{LINE, Placed, QUANTITIES};
 
 // 0 or the refusal's number; the offset of the byte that it names, 0 where it names none; the passes of the search wherever one ran;
 // the quantities of the plan's line, in its order, all 0 where there is no plan.
-#[derive(Drop)]
+#[derive(Clone, Copy)]
 pub struct Answer {
     pub number: u32,
     pub offset: u32,

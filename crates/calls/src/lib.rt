@@ -1,4 +1,6 @@
 // A setter call as a value, so that a chain of calls is a list; and by number.
+#![tactic(auto)]
+
 mod named;
 
 ghost use Rattle.std.specs.Prelude.{◌≡◌};
@@ -10,7 +12,7 @@ use kinds::{
 };
 pub use named::{Named, call_of};
 
-#[derive(Drop)]
+#[derive(Clone, Copy)]
 pub enum Setter {
     Hse(Hertz, HSEClockMode),
     Hclk(Hertz),

@@ -8,7 +8,7 @@ use kinds::{
 };
 
 // The call that numbers name, or none.
-#[derive(Drop)]
+#[derive(Clone, Copy)]
 pub enum Named {
     Unknown,
     Call(Setter),

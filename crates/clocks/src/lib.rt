@@ -1,4 +1,6 @@
 // Document 01, "Derived clocks": the clocks that a configuration's settings give as they stand. The names are those of rcc.rs.
+#![tactic(auto)]
+
 mod buses;
 mod outputs;
 mod power;
@@ -15,7 +17,7 @@ use buses::{ahb, apb, cap};
 use kinds::{CFGR, Divider, Hertz, Request, Requests, Sources};
 
 // The frozen clocks.
-#[derive(Drop)]
+#[derive(Clone, Copy)]
 pub struct Clocks {
     pub hclk: Hertz,
     pub pclk1: Hertz,
@@ -30,7 +32,7 @@ pub struct Clocks {
 }
 
 // The field codes that grant them; vos_scale is the scale's number.
-#[derive(Drop)]
+#[derive(Clone, Copy)]
 pub struct InternalRCCConfig {
     pub hpre: u8,
     pub ppre1: u8,
@@ -41,7 +43,7 @@ pub struct InternalRCCConfig {
 }
 
 // A refusal of 1 to 6 or 8, or the clocks.
-#[derive(Drop)]
+#[derive(Clone, Copy)]
 pub enum Derived {
     Refused(u8),
     At {
@@ -51,27 +53,27 @@ pub enum Derived {
 }
 
 // A divider of SYSCLK, held as an f32, and the field code that selects it.
-#[derive(Drop)]
+#[derive(Clone, Copy)]
 struct Hpre {
     div: f32,
     code: u8,
 }
 
 // A divider of HCLK and the field code that selects it.
-#[derive(Drop)]
+#[derive(Clone, Copy)]
 struct Ppre {
     div: Divider,
     code: u8,
 }
 
 // HCLK with HPRE's code; a PCLK with its timers' clock and PPRE's code.
-#[derive(Drop)]
+#[derive(Clone, Copy)]
 struct Ahb {
     hclk: Hertz,
     hpre: u8,
 }
 
-#[derive(Drop)]
+#[derive(Clone, Copy)]
 struct Apb {
     pclk: Hertz,
     timclk: Hertz,

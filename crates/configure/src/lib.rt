@@ -1,4 +1,6 @@
 // Document 01, "Whether the PLL is used": pll_configure, the settings of the main PLL that a request comes to.
+#![tactic(auto)]
+
 mod settings;
 mod windows;
 
@@ -13,7 +15,7 @@ use settings::{fits, off, taken};
 use windows::{base_of, p_window, q_window, wanted_of};
 
 // A refusal of 1 to 7, or the configuration as planned; with the passes of the search, 0 where none ran.
-#[derive(Drop)]
+#[derive(Clone, Copy)]
 pub enum Configured {
     Refused { number: u8, passes: u32 },
     Ready { cfgr: CFGR, passes: u32 },

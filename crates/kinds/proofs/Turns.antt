@@ -46,9 +46,11 @@ all t (m ∷ l) = t m && all t l
 
 pub both_left : (a b : Bool) → T (a && b) → T a
 both_left true b t = tt
+both_left false b t = elim t [ ]
 
 pub both_right : (a b : Bool) → T (a && b) → T b
 both_right true b t = t
+both_right false b t = elim t [ ]
 
 -- what a test says of each of them it says of one
 pub holds_of : (t : ℕ → Bool) (l : List ℕ) → T (all t l) → (n : ℕ) → OneOf l n → T (t n)

@@ -1,5 +1,7 @@
 // What a clock request is made of: frequencies, dividers, choices, and the configuration that holds them.
 // Document 01, "Taken and left"; the names are those of rcc.rs where it has one.
+#![tactic(auto)]
+
 pub mod codes;
 pub mod limits;
 mod setters;
@@ -8,49 +10,49 @@ ghost use Rattle.std.specs.Prelude.{◌≡◌};
 ghost use Rattle.kinds.specs.Config.{defaults, input_of};
 
 // A frequency in hertz, a divider and a multiplication factor: none is passed for another.
-#[derive(Drop)]
+#[derive(Clone, Copy)]
 pub struct Hertz(pub u32);
 
-#[derive(Drop)]
+#[derive(Clone, Copy)]
 pub struct Divider(pub u32);
 
-#[derive(Drop)]
+#[derive(Clone, Copy)]
 pub struct Factor(pub u32);
 
-#[derive(Drop)]
+#[derive(Clone, Copy)]
 pub enum HSEClockMode {
     Oscillator,
     Bypass,
 }
 
-#[derive(Drop)]
+#[derive(Clone, Copy)]
 pub enum HSEClock {
     Absent,
     Oscillator(Hertz),
     Bypass(Hertz),
 }
 
-#[derive(Drop)]
+#[derive(Clone, Copy)]
 pub enum LSEClockMode {
     Oscillator,
     Bypass,
 }
 
-#[derive(Drop)]
+#[derive(Clone, Copy)]
 pub enum LSEClock {
     Absent,
     Oscillator,
     Bypass,
 }
 
-#[derive(Drop)]
+#[derive(Clone, Copy)]
 pub enum PLL48CLK {
     Pllq,
     Pllsai,
 }
 
 // The source of the 48 MHz clock, where one is chosen.
-#[derive(Drop)]
+#[derive(Clone, Copy)]
 pub enum Choice48 {
     Absent,
     Pllq,
@@ -58,14 +60,14 @@ pub enum Choice48 {
 }
 
 // A frequency that is asked for, or none.
-#[derive(Drop)]
+#[derive(Clone, Copy)]
 pub enum Request {
     Absent,
     At(Hertz),
 }
 
 // The P divider of the main PLL and of PLLSAI: one type for what the Rust has twice.
-#[derive(Drop)]
+#[derive(Clone, Copy)]
 pub enum PLLP {
     Div2,
     Div4,
@@ -73,7 +75,7 @@ pub enum PLLP {
     Div8,
 }
 
-#[derive(Drop)]
+#[derive(Clone, Copy)]
 pub enum MCO1 {
     Hsi,
     Lse,
@@ -81,7 +83,7 @@ pub enum MCO1 {
     Pll,
 }
 
-#[derive(Drop)]
+#[derive(Clone, Copy)]
 pub enum MCO2 {
     Sysclk,
     Plli2s,
@@ -89,7 +91,7 @@ pub enum MCO2 {
     Pll,
 }
 
-#[derive(Drop)]
+#[derive(Clone, Copy)]
 pub enum MCOPRE {
     Div1,
     Div2,
@@ -98,14 +100,14 @@ pub enum MCOPRE {
     Div5,
 }
 
-#[derive(Drop)]
+#[derive(Clone, Copy)]
 pub struct Sources {
     pub hse: HSEClock,
     pub lse: LSEClock,
     pub lsi: bool,
 }
 
-#[derive(Drop)]
+#[derive(Clone, Copy)]
 pub struct Requests {
     pub hclk: Request,
     pub sysclk: Request,
@@ -113,7 +115,7 @@ pub struct Requests {
     pub pclk2: Request,
 }
 
-#[derive(Drop)]
+#[derive(Clone, Copy)]
 pub struct Pll {
     pub use_pll: bool,
     pub pll48clk: Choice48,
@@ -123,7 +125,7 @@ pub struct Pll {
     pub q: Divider,
 }
 
-#[derive(Drop)]
+#[derive(Clone, Copy)]
 pub struct Sai {
     pub use_pllsai: bool,
     pub n: Factor,
@@ -131,7 +133,7 @@ pub struct Sai {
     pub q: Divider,
 }
 
-#[derive(Drop)]
+#[derive(Clone, Copy)]
 pub struct I2s {
     pub use_plli2s: bool,
     pub n: Factor,
@@ -139,7 +141,7 @@ pub struct I2s {
     pub q: Divider,
 }
 
-#[derive(Drop)]
+#[derive(Clone, Copy)]
 pub struct Mco {
     pub mco1: MCO1,
     pub mco1pre: MCOPRE,
@@ -148,7 +150,7 @@ pub struct Mco {
 }
 
 // The configuration, by groups.
-#[derive(Drop)]
+#[derive(Clone, Copy)]
 pub struct CFGR {
     pub sources: Sources,
     pub requests: Requests,
@@ -159,7 +161,7 @@ pub struct CFGR {
 }
 
 // What a setter hands back: 0 and the new configuration, or a refusal and the configuration as it came.
-#[derive(Drop)]
+#[derive(Clone, Copy)]
 pub struct Setting {
     pub refusal: u8,
     pub cfgr: CFGR,

@@ -1,4 +1,6 @@
 // Runs the list of all limits through the setters and the search: both ends of each, the numbers just past them, and the greatest.
+#![tactic(auto)]
+
 ghost use Rattle.std.specs.Prelude.{◌≤◌};
 
 use calls::{Setter, call};

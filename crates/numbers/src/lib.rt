@@ -1,4 +1,6 @@
 // Answers as numbers in lent buffers, what the functions for C hand back; here a configuration as 30 numbers, group by group.
+#![tactic(auto)]
+
 pub mod answers;
 pub mod plans;
 

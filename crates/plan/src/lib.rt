@@ -1,4 +1,6 @@
 // The plan of a configuration: the check, pll_configure, calculate_clocks, then document 01's refusals 9 to 11.
+#![tactic(auto)]
+
 mod limits;
 
 ghost use Rattle.std.specs.Prelude.{◌≡◌};
@@ -12,7 +14,7 @@ use limits::late_refusal;
 
 // A refusal of 1 to 7 or 9 to 11, or the configuration as planned with its clocks and their field codes; and the passes of the
 // search wherever one ran.
-#[derive(Drop)]
+#[derive(Clone, Copy)]
 pub enum Planned {
     Refused {
         number: u8,

@@ -1,4 +1,6 @@
 // The program: reads up to 1,000,000 records from standard input and writes one line for each.
+#![tactic(auto)]
+
 mod lines;
 
 ghost use Rattle.std.specs.Prelude.{◌≡◌, true, ◌+◌, ◌*◌, ◌-◌, ◌/◌, ◌<◌, ◌≤◌, length, take};
@@ -16,14 +18,14 @@ const RECORDS: usize = 1000000;
 const PIECE: usize = 65536;
 
 // How many bytes came in, and whether a read failed: then no more is read.
-#[derive(Drop)]
+#[derive(Clone, Copy)]
 struct Taken {
     got: usize,
     failed: bool,
 }
 
 // What a piece came to: what came in, whether its text was written, and how many records may still be read.
-#[derive(Drop)]
+#[derive(Clone, Copy)]
 struct Piece {
     taken: Taken,
     written: bool,

@@ -1,4 +1,6 @@
 // Document 01, "Fixed point" and "Search": the PLL's outputs, and the search for its settings.
+#![tactic(auto)]
+
 mod fixed;
 mod pass;
 mod search;
@@ -19,35 +21,35 @@ pub const Q_LOW: u32 = 47880000;
 pub const Q_HIGH: u32 = 48120000;
 
 // A window that an output is wanted in, its ends included.
-#[derive(Drop)]
+#[derive(Clone, Copy)]
 pub enum Window {
     Absent,
     Within(Hertz, Hertz),
 }
 
 // The divider of an answer: none where no window asked for one.
-#[derive(Drop)]
+#[derive(Clone, Copy)]
 pub enum Sought {
     Unasked,
     By(Divider),
 }
 
 // Which of the two outputs a window is for.
-#[derive(Drop)]
+#[derive(Clone, Copy)]
 enum Side {
     P,
     Q,
 }
 
 // What seeking a divider for a window comes to.
-#[derive(Drop)]
+#[derive(Clone, Copy)]
 enum Seek {
     Missed,
     Had(Sought),
 }
 
 // What a look at a pair comes to.
-#[derive(Drop)]
+#[derive(Clone, Copy)]
 enum Look {
     Refuse,
     NextM,
@@ -56,7 +58,7 @@ enum Look {
 }
 
 // The answer of the search, with the passes that its walk makes.
-#[derive(Drop)]
+#[derive(Clone, Copy)]
 pub enum Found {
     Pair {
         m: Divider,
@@ -72,7 +74,7 @@ pub enum Found {
 }
 
 // An output in hertz, or the number of the refusal.
-#[derive(Drop)]
+#[derive(Clone, Copy)]
 pub enum Outcome {
     Refused(u8),
     At(u64),

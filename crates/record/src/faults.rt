@@ -7,7 +7,7 @@ use super::numbers::{byte, flag, u16_at, u32_at};
 use super::{Fault, flags, offsets};
 
 // What the rules looked at so far have shown.
-#[derive(Drop)]
+#[derive(Clone, Copy)]
 pub enum Found {
     Fine,
     At(Fault),

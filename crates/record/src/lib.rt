@@ -1,4 +1,6 @@
 // Document 01, "Request record": 64 bytes, little-endian, read as a configuration or found malformed.
+#![tactic(auto)]
+
 mod config;
 mod faults;
 mod flags;
@@ -15,7 +17,7 @@ pub use offsets::RECORD;
 
 // Why a record is malformed and at which offset: another length, a reserved bit or byte that isn't zero,
 // an unknown code, a value or child bit whose flag is off. Document 01 has one number for all of them.
-#[derive(Drop)]
+#[derive(Clone, Copy)]
 pub enum Fault {
     Length,
     Reserved(usize),
@@ -23,7 +25,7 @@ pub enum Fault {
     Unasked(usize),
 }
 
-#[derive(Drop)]
+#[derive(Clone, Copy)]
 pub enum Reading {
     Config(CFGR),
     Malformed(Fault),

@@ -1,4 +1,6 @@
 // Document 01, "Start-up": freeze, over a modelled register file, with limited polls and a cut. The names are those of rcc.rs.
+#![tactic(auto)]
+
 mod machine;
 mod sections;
 
@@ -17,7 +19,7 @@ use plan::{Planned, plan};
 
 // How a start ended: whole or at the cut, with the plan's clocks and field codes; refused by 13 or the plan; or at a wait that was
 // not answered, refusal 12: 1 HSI, 2 HSE, 3 PLL, 4 ODEN, 5 ODSWEN, 6 LSE, 7 LSI, 8 SW.
-#[derive(Drop)]
+#[derive(Clone, Copy)]
 pub enum Outcome {
     Done {
         clocks: Clocks,
@@ -31,7 +33,7 @@ pub enum Outcome {
     Unanswered(u8),
 }
 
-#[derive(Drop)]
+#[derive(Clone, Copy)]
 pub struct Started {
     pub outcome: Outcome,
     pub polls: u32,

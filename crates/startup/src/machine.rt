@@ -7,7 +7,7 @@ ghost use Rattle.startup.specs.Machine.{begin_of, going, poll_of, waited_of, Roo
 use order::PLACES;
 
 // The register file, the stores left before the cut, the polls made, the next of the answers, and the wait that was not answered or 0.
-#[derive(Drop)]
+#[derive(Clone, Copy)]
 pub struct Machine {
     pub file: [u32; PLACES],
     pub left: u8,
@@ -17,7 +17,7 @@ pub struct Machine {
 }
 
 // Whether a wait was answered, its polls, and where in the answers the next poll is.
-#[derive(Drop)]
+#[derive(Clone, Copy)]
 struct Poll {
     ready: bool,
     polls: u32,

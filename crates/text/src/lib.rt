@@ -1,4 +1,6 @@
 // Lines put into a lent buffer: a word, numbers in decimal with a space before each, and a newline.
+#![tactic(auto)]
+
 mod decimal;
 
 ghost use Rattle.std.specs.Prelude.{◌≡◌, [], ◌∷◌, ◌+◌, ◌*◌, ◌≤◌, leb, length};
@@ -14,7 +16,7 @@ pub const QUANTITIES: usize = 14;
 pub const LINE: usize = 157;
 
 // Where a line was put: the place after it is handed back; without room for it nothing is put.
-#[derive(Drop)]
+#[derive(Clone, Copy)]
 pub enum Placed {
     Next(usize),
     NoRoom,

@@ -1,4 +1,6 @@
 // Functions for C: record bytes and numbers in, numbers out. include/woolturret.h declares them.
+#![tactic(auto)]
+
 mod starts;
 
 ghost use Rattle.std.specs.Prelude.{◌≡◌};
@@ -172,7 +174,7 @@ pub extern "C" fn woolturret_line(bytes: &[u8], out: &mut [u8; LINE]) -> u32
 
 // What a start came to: 0 or its refusal's number; 1 if it ended at the cut; the wait that 12 names, else 0; the polls made.
 #[repr(C)]
-#[derive(Drop)]
+#[derive(Clone, Copy)]
 pub struct Report {
     pub refusal: u32,
     pub cut: u32,
