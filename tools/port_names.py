@@ -65,8 +65,10 @@ def renamed(text, names):
 
 
 def code(text, names):
-    """A file of src/: outside of its strings."""
-    return re.sub(r'("(?:[^"\\\n]|\\.)*")|([^"]+|")', lambda part: part.group(1) or renamed(part.group(2), names), text)
+    """A file of src/: outside of its strings; a name with a dash in clauses alone."""
+    plain = {name: new for name, new in names.items() if '-' not in name}
+    text = re.sub(r'("(?:[^"\\\n]|\\.)*")|([^"]+|")', lambda part: part.group(1) or renamed(part.group(2), plain), text)
+    return re.sub(r'^ *(?:ghost use|requires|ensures) .*$', lambda line: renamed(line.group(0), names), text, flags=re.M)
 
 
 def quoted(text, names):
@@ -151,8 +153,7 @@ def main():
     pages = sorted(glob.glob('docs/*.md')) + ['README.md']
     turn(specs_and_lemmas(), lambda text: renamed(text, names))
     turn(proofs, lambda text: renamed(text, names))
-    camel = {name: new for name, new in names.items() if '-' not in name}
-    turn(sorted(glob.glob('crates/*/src/**/*.rt', recursive=True)), lambda text: code(text, camel))
+    turn(sorted(glob.glob('crates/*/src/**/*.rt', recursive=True)), lambda text: code(text, names))
     also = Also(names)
     turn(sorted(glob.glob('crates/*/must-fail/*.edit') + glob.glob('crates/*/wrong/*.edit')), lambda text: edit(text, also))
     turn(pages, lambda text: quoted(text, also))

@@ -117,6 +117,7 @@ module _ (d : ℕ) (ds : List ℕ) (lo hi v : ℕ) (fa : T (falling (d ∷ ds)))
           none_fits (λ x a h. ⊎_elim (λ (b : x ≡ d). not_here (subst (λ (y : ℕ). Hits lo hi v y) b h)) (λ (b : Among x ds). g x b h) a)
       onward (Had (By r)) (largest_fits r₁ a h g) =
           largest_fits r (inr a) h (λ x b k. ⊎_elim (λ (y : x ≡ d). absurd (not_here (subst (λ (z : ℕ). Hits lo hi v z) y k))) (λ (y : Among x ds). g x y k) b)
+      onward (Had Unasked) x = elim x [ ]
 
   view_cons : FirstView ds lo hi v (first ds lo hi v) → (t : Bool) → inside lo hi (v / d) ≡ t → FirstView (d ∷ ds) lo hi v (first (d ∷ ds) lo hi v)
   view_cons w true e = view_here e
@@ -140,6 +141,7 @@ seek_view ds (Within lo hi) v fa = from (first ds lo.0 hi.0 v) (first_view ds lo
     from : (s : Seek) → FirstView ds lo.0 hi.0 v s → SeekView ds (Within lo hi) v s
     from Missed (none_fits g) = missed (λ x. g x.0 x.1 x.2)
     from (Had (By r)) (largest_fits r₁ a h g) = had (By r) (r, refl, a, h, g)
+    from (Had Unasked) x = elim x [ ]
 
 pub chosen_fits : (ds : List ℕ) (w : Window) (v : ℕ) (s : Sought) → Chosen ds w v s → Fitting ds w v
 chosen_fits ds Absent v s h = tt

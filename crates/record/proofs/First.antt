@@ -31,13 +31,13 @@ pub data First (b : List ℕ) (rs : List Rule) : Found → Type 0 where
 
 -- a rule of a list that is kept is kept
 pub kept_at : (b : List ℕ) (rs : List Rule) {r : Rule} → Kept b rs → Memᴰ r rs → keeps b r ≡ true
-kept_at b [] k m = absurd (Memᴰ.not_nil m)
+kept_at b [] k m = absurd (Memᴰ.not-nil m)
 kept_at b (s ∷ rs) k m =
     ⊎_elim (λ e. ap (keeps b) e ∙ k.0) (λ m'. kept_at b rs k.1 m') (Memᴰ.cases_cons m)
 
 -- each rule of a rising list is at its bound or past it
 past : {r : Rule} (k : ℕ) (rs : List Rule) → rising k rs ≡ true → Memᴰ r rs → k ≤ offset_of r
-past k [] h m = absurd (Memᴰ.not_nil m)
+past k [] h m = absurd (Memᴰ.not-nil m)
 past {r} k (s ∷ rs) h m =
     let both = (and-eq-true_iff _ _).0 h in
     let here : k ≤ offset_of s = leb-true _ _ both.0 in

@@ -26,7 +26,7 @@ fn note(found: Found, kept: bool, fault: Fault) -> Found
 // Bits 14, 15 of the flags are zero.
 fn reserved_bits(bytes: &[u8], found: Found) -> Found
     requires { places.RECORD ≤ length bytes.now }
-    ensures { result ≡ spec.looked bytes.now found spec.reserved-bits }
+    ensures { result ≡ spec.looked bytes.now found spec.reserved_bits }
 {
     note(
         found,

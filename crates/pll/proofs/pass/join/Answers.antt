@@ -1,0 +1,16 @@
+-- The cases are the definition's.
+use Rattle.pll.specs.Walk.{join}
+use Rattle.std.proofs.Common.{rules}
+use Rattle.pll.proofs.pass.join.Goals as goal
+
+pub returns-in-Missed : goal.returns-in-Missed
+unfolding join
+returns-in-Missed c = rw c.enum_told-1.given.1
+
+pub returns-in-Missed-b : goal.returns-in-Missed-b
+unfolding join
+returns-in-Missed-b c = rw (c.a-1.given.1, c.enum_told-in-Missed-b-1.given.1)
+
+pub returns-in-Had-b : goal.returns-in-Had-b
+unfolding join
+returns-in-Had-b c = rw (c.a-1.given.1, c.b-1.given.1)

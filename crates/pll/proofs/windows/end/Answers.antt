@@ -1,0 +1,13 @@
+-- The two cases of the window are the definition's.
+use mathlib.Core.Path.{◌∙◌}
+use Rattle.pll.specs.Skip.{end}
+use Rattle.std.proofs.Common.{rules}
+use Rattle.pll.proofs.windows.end.Goals as goal
+
+pub returns-in-Absent : goal.returns-in-Absent
+unfolding end
+returns-in-Absent c = rw c.enum_told-1.given.1
+
+pub returns-in-Within : goal.returns-in-Within
+unfolding end
+returns-in-Within c = rw c.w-1.given.1 (c.past.ensures ∙ rw c.highest.ensures)

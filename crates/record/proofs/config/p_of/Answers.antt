@@ -1,0 +1,20 @@
+-- `p_of` reads a P code: one arm a code, the last by what the others left.
+use borrow.Author.Tests.{ne_eqb}
+use Rattle.record.specs.Config.{p_of}
+use Rattle.record.proofs.config.p_of.Goals as goal
+
+pub returns-in-0 : goal.returns-in-0
+unfolding p_of
+returns-in-0 c = rw c.in-0.keys1
+
+pub returns-in-1 : goal.returns-in-1
+unfolding p_of
+returns-in-1 c = rw c.in-1.keys2
+
+pub returns-in-2 : goal.returns-in-2
+unfolding p_of
+returns-in-2 c = rw c.in-2.keys3
+
+pub returns-in_default : goal.returns-in_default
+unfolding p_of
+returns-in_default c = rw (ne_eqb _ 0 c.in_default.rest.0.0.1, ne_eqb _ 1 c.in_default.rest.0.1, ne_eqb _ 2 c.in_default.rest.1)

@@ -1,0 +1,17 @@
+-- `put_text` meets its contract: after i turns the first i bytes stand.
+use Prim.Native.Nat.{◌+◌, ◌-◌, ◌≤◌}
+use native.Mathlib.Omega.{arith}
+use mathlib.Core.Path.{◌≡◌, sym}
+use lib.ListN.{length, take}
+use lib.Seq.{take_all}
+use Rattle.std.proofs.Common.{rules}
+use Rattle.text.specs.Placing.{Wrote}
+use Rattle.text.proofs.Writing.{join, none, renamed, same}
+use Rattle.text.proofs.Spacing.{take_more}
+use Rattle.text.proofs.put_text.Given as goal
+
+abbrev pub invariant-loop : goal.invariant-loop
+invariant-loop l = Wrote l.initial.out l.at (take l.i l.text) l.out l.p × (l.p ≡ l.at + l.i) × (l.i ≤ length l.text)
+
+abbrev pub decreases-loop : goal.decreases-loop
+decreases-loop l = length l.text - l.i
