@@ -10,8 +10,8 @@ use Rattle.text.proofs.Writing.{join, none, renamed, same}
 use Rattle.text.proofs.Spacing.{take_more}
 use Rattle.text.proofs.put_text.Given as goal
 
-abbrev pub invariant-loop : goal.invariant-loop
-invariant-loop l = Wrote l.initial.out l.at (take l.i l.text) l.out l.p × (l.p ≡ l.at + l.i) × (l.i ≤ length l.text)
+abbrev pub invariant-loop-i : goal.invariant-loop-i
+invariant-loop-i l = Wrote l.initial.out l.at (take l.i l.text) l.out l.p × (l.p ≡ l.at + l.i) × (l.i ≤ length l.text)
 
-abbrev pub decreases-loop : goal.decreases-loop
-decreases-loop l = length l.text - l.i
+abbrev pub decreases-loop-i : goal.decreases-loop-i
+decreases-loop-i l = length l.text - l.i

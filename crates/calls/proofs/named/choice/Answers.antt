@@ -4,10 +4,10 @@ use Rattle.calls.proofs.Lists.{picked, unpicked}
 use Rattle.calls.proofs.named.choice.Goals as goal
 
 pub returns-in-0 : goal.returns-in-0
-returns-in-0 c = picked _ c.in-0.keys1 refl
+returns-in-0 c = picked _ c.in-0.is refl
 
 pub returns-in-1 : goal.returns-in-1
-returns-in-1 c = picked _ c.in-1.keys2 refl
+returns-in-1 c = picked _ c.in-1.is refl
 
 pub returns-in_default : goal.returns-in_default
-returns-in_default c = unpicked _ _ c.in_default.rest
+returns-in_default c = unpicked _ _ c.in_default.in_default-own.rest

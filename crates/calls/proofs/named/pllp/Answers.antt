@@ -4,16 +4,16 @@ use Rattle.std.proofs.Common.{rules}
 use Rattle.calls.proofs.named.pllp.Goals as goal
 
 pub returns-in-0 : goal.returns-in-0
-returns-in-0 c = picked _ c.in-0.keys1 c.pllp_call.ensures
+returns-in-0 c = picked _ c.in-0.is c.pllp_call.ensures
 
 pub returns-in-1 : goal.returns-in-1
-returns-in-1 c = picked _ c.in-1.keys2 c.pllp_call-in-1.ensures
+returns-in-1 c = picked _ c.in-1.is c.pllp_call-in-1.ensures
 
 pub returns-in-2 : goal.returns-in-2
-returns-in-2 c = picked _ c.in-2.keys3 c.pllp_call-in-2.ensures
+returns-in-2 c = picked _ c.in-2.is c.pllp_call-in-2.ensures
 
 pub returns-in-3 : goal.returns-in-3
-returns-in-3 c = picked _ c.in-3.keys4 c.pllp_call-in-3.ensures
+returns-in-3 c = picked _ c.in-3.is c.pllp_call-in-3.ensures
 
 pub returns-in_default : goal.returns-in_default
-returns-in_default c = unpicked _ _ c.in_default.rest
+returns-in_default c = unpicked _ _ c.in_default.in_default-own.rest

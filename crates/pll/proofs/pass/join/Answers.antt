@@ -5,12 +5,12 @@ use Rattle.pll.proofs.pass.join.Goals as goal
 
 pub returns-in-Missed : goal.returns-in-Missed
 unfolding join
-returns-in-Missed c = rw c.enum_told-1.given.1
+returns-in-Missed c = rw c.in-Missed.is
 
 pub returns-in-Missed-b : goal.returns-in-Missed-b
 unfolding join
-returns-in-Missed-b c = rw (c.a-1.given.1, c.enum_told-in-Missed-b-1.given.1)
+returns-in-Missed-b c = rw (c.in-Had.is, c.in-Missed-b.is)
 
 pub returns-in-Had-b : goal.returns-in-Had-b
 unfolding join
-returns-in-Had-b c = rw (c.a-1.given.1, c.b-1.given.1)
+returns-in-Had-b c = rw (c.in-Had.is, c.in-Had-b.is)

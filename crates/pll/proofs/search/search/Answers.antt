@@ -35,9 +35,21 @@ look_at-l-requires c = (c.loop-m.invariant.0.m_low, v-is _ _ _ c.vco-v.ensures c
 pub returns-in-Refuse : goal.returns-in-Refuse
 returns-in-Refuse c =
     let r = c.loop-m.invariant.0 in
-    let e = sym c.look_at-l.ensures ∙ c.enum_told-1.given.1 in
+    let e = sym c.look_at-l.ensures ∙ c.in-Refuse.is in
     let k = room_here _ _ _ _ r in
     sym (turn_refuse _ _ _ _ _ _ _ _ (fuel _ k) e) ∙ c.loop-m.invariant.2
+
+pub overflow_add-m : goal.overflow_add-m
+overflow_add-m c =
+    let r = c.loop-m.invariant.0 in
+    let e = sym c.look_at-l.ensures ∙ c.in-NextM.is in
+    let x = next_m_small _ _ _ _ _ (told _ _ _ _ _ e) in omega arith
+
+pub overflow_add-passes : goal.overflow_add-passes
+overflow_add-passes c =
+    let r = c.loop-m.invariant.0 in
+    let k = room_here _ _ _ _ r in
+    omega arith
 
 pub unit-u-requires-in-NextM : goal.unit-u-requires-in-NextM
 unit-u-requires-in-NextM c = (c.requires.1, omega (arith, c.loop-m.invariant.0.m_low))
@@ -51,32 +63,44 @@ loop-m-smaller-in-NextM c =
 pub loop-m-preserved-in-NextM : goal.loop-m-preserved-in-NextM
 loop-m-preserved-in-NextM c =
     let r = c.loop-m.invariant.0 in
-    let e = sym c.look_at-l.ensures ∙ c.enum_told-in-NextM-1.given.1 in
+    let e = sym c.look_at-l.ensures ∙ c.in-NextM.is in
     let k = room_here _ _ _ _ r in
     (room_m _ _ _ _ _ _ r (told _ _ _ _ _ e), c.unit-u-in-NextM.ensures, sym (turn_m _ _ _ _ _ _ _ _ (fuel _ k) e) ∙ c.loop-m.invariant.2)
 
 pub jump-j-requires : goal.jump-j-requires
 jump-j-requires c =
     let r = c.loop-m.invariant.0 in
-    let e = sym c.look_at-l.ensures ∙ c.enum_told-in-NextN-1.given.1 in
+    let e = sym c.look_at-l.ensures ∙ c.in-NextN.is in
     let s = next_n_range _ _ _ _ _ (told _ _ _ _ _ e) in
     (rw c.loop-m.invariant.1 (unit_pos _ _ c.requires.0 r.m_low s.m_high), s.n_low, r.n_high, rw c.target-t.ensures (target_low _ _ _), rw c.target-t.ensures (target_high _ _ _))
+
+pub overflow_sub-passes : goal.overflow_sub-passes
+overflow_sub-passes c =
+    let r = c.loop-m.invariant.0 in
+    let e = sym c.look_at-l.ensures ∙ c.in-NextN.is in
+    let s = skipped _ _ _ _ _ _ _ _ _ _ c.requires.0 r e c.loop-m.invariant.1 (v-is _ _ _ c.vco-v.ensures c.loop-m.invariant.1) c.target-t.ensures c.jump-j.ensures in omega (arith, s.less)
+
+pub overflow_add-passes-in-NextN : goal.overflow_add-passes-in-NextN
+overflow_add-passes-in-NextN c =
+    let r = c.loop-m.invariant.0 in
+    let e = sym c.look_at-l.ensures ∙ c.in-NextN.is in
+    let s = skipped _ _ _ _ _ _ _ _ _ _ c.requires.0 r e c.loop-m.invariant.1 (v-is _ _ _ c.vco-v.ensures c.loop-m.invariant.1) c.target-t.ensures c.jump-j.ensures in omega (arith, s.count)
 
 pub loop-m-smaller : goal.loop-m-smaller
 loop-m-smaller c =
     let r = c.loop-m.invariant.0 in
-    let e = sym c.look_at-l.ensures ∙ c.enum_told-in-NextN-1.given.1 in
+    let e = sym c.look_at-l.ensures ∙ c.in-NextN.is in
     let s = skipped _ _ _ _ _ _ _ _ _ _ c.requires.0 r e c.loop-m.invariant.1 (v-is _ _ _ c.vco-v.ensures c.loop-m.invariant.1) c.target-t.ensures c.jump-j.ensures in omega (arith, s.less, s.count)
 
 pub loop-m-preserved : goal.loop-m-preserved
 loop-m-preserved c =
     let r = c.loop-m.invariant.0 in
-    let e = sym c.look_at-l.ensures ∙ c.enum_told-in-NextN-1.given.1 in
+    let e = sym c.look_at-l.ensures ∙ c.in-NextN.is in
     let s = skipped _ _ _ _ _ _ _ _ _ _ c.requires.0 r e c.loop-m.invariant.1 (v-is _ _ _ c.vco-v.ensures c.loop-m.invariant.1) c.target-t.ensures c.jump-j.ensures in (s.room, c.loop-m.invariant.1, sym s.same ∙ c.loop-m.invariant.2)
 
 pub returns-in-Good : goal.returns-in-Good
 returns-in-Good c =
     let r = c.loop-m.invariant.0 in
-    let e = sym c.look_at-l.ensures ∙ c.l-1.given.1 in
+    let e = sym c.look_at-l.ensures ∙ c.in-Good.is in
     let k = room_here _ _ _ _ r in
     sym (turn_good _ _ _ _ _ _ _ _ (fuel _ k) _ _ e) ∙ c.loop-m.invariant.2

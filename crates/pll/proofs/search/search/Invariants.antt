@@ -12,10 +12,10 @@ use Rattle.std.proofs.Common.{rules}
 use native.Mathlib.Omega.{arith}
 use Rattle.pll.proofs.search.search.Given as goal
 
-abbrev pub invariant-loop : goal.invariant-loop
-invariant-loop l = Room l.f.0 l.m l.n l.k × (l.u ≡ unit_of l.f.0 l.m) × (spec.walk (10009 - l.k) l.f.0 l.p l.q (spec.look l.f.0 l.p l.q l.m l.n) l.m l.n l.k ≡ spec.whole_walk l.f.0 l.p l.q)
+abbrev pub invariant-loop-m : goal.invariant-loop-m
+invariant-loop-m l = Room l.f.0 l.m l.n l.k × (l.u ≡ unit_of l.f.0 l.m) × (spec.walk (10009 - l.k) l.f.0 l.p l.q (spec.look l.f.0 l.p l.q l.m l.n) l.m l.n l.k ≡ spec.whole_walk l.f.0 l.p l.q)
 
-abbrev pub decreases-loop : goal.decreases-loop
-decreases-loop l = 10009 - l.k
+abbrev pub decreases-loop-m : goal.decreases-loop-m
+decreases-loop-m l = 10009 - l.k
 
 -- at pass l.k one turn of the walk is left for this look

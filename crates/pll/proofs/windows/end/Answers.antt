@@ -6,8 +6,8 @@ use Rattle.pll.proofs.windows.end.Goals as goal
 
 pub returns-in-Absent : goal.returns-in-Absent
 unfolding end
-returns-in-Absent c = rw c.enum_told-1.given.1
+returns-in-Absent c = rw c.in-Absent.is
 
 pub returns-in-Within : goal.returns-in-Within
 unfolding end
-returns-in-Within c = rw c.w-1.given.1 (c.past.ensures ∙ rw c.highest.ensures)
+returns-in-Within c = rw c.in-Within.is (c.past.ensures ∙ rw c.highest.ensures)

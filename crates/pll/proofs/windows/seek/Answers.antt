@@ -7,8 +7,8 @@ use Rattle.pll.proofs.windows.seek.Goals as goal
 
 pub returns-in-Absent : goal.returns-in-Absent
 unfolding seek
-returns-in-Absent c = rw c.enum_told-1.given.1
+returns-in-Absent c = rw c.in-Absent.is
 
 pub returns-in-Within : goal.returns-in-Within
 unfolding seek
-returns-in-Within c = rw c.w-1.given.1 (c.fitting.ensures ∙ rw c.highest.ensures (sym (first_fit _ _ _ _ (dividers_fall c.args.s))))
+returns-in-Within c = rw c.in-Within.is (c.fitting.ensures ∙ rw c.highest.ensures (sym (first_fit _ _ _ _ (dividers_fall c.args.s))))

@@ -5,20 +5,20 @@ use Rattle.record.proofs.config.mcopre_of.Goals as goal
 
 pub returns-in-0 : goal.returns-in-0
 unfolding mcopre_of
-returns-in-0 c = rw c.in-0.keys1
+returns-in-0 c = rw c.in-0.is
 
 pub returns-in-1 : goal.returns-in-1
 unfolding mcopre_of
-returns-in-1 c = rw c.in-1.keys2
+returns-in-1 c = rw c.in-1.is
 
 pub returns-in-2 : goal.returns-in-2
 unfolding mcopre_of
-returns-in-2 c = rw c.in-2.keys3
+returns-in-2 c = rw c.in-2.is
 
 pub returns-in-3 : goal.returns-in-3
 unfolding mcopre_of
-returns-in-3 c = rw c.in-3.keys4
+returns-in-3 c = rw c.in-3.is
 
 pub returns-in_default : goal.returns-in_default
 unfolding mcopre_of
-returns-in_default c = rw (ne_eqb _ 0 c.in_default.rest.0.0.0.1, ne_eqb _ 1 c.in_default.rest.0.0.1, ne_eqb _ 2 c.in_default.rest.0.1, ne_eqb _ 3 c.in_default.rest.1)
+returns-in_default c = rw (ne_eqb _ 0 c.in_default.in_default-own.rest.0.0.0.1, ne_eqb _ 1 c.in_default.in_default-own.rest.0.0.1, ne_eqb _ 2 c.in_default.in_default-own.rest.0.1, ne_eqb _ 3 c.in_default.in_default-own.rest.1)

@@ -5,16 +5,16 @@ use Rattle.record.proofs.config.p_of.Goals as goal
 
 pub returns-in-0 : goal.returns-in-0
 unfolding p_of
-returns-in-0 c = rw c.in-0.keys1
+returns-in-0 c = rw c.in-0.is
 
 pub returns-in-1 : goal.returns-in-1
 unfolding p_of
-returns-in-1 c = rw c.in-1.keys2
+returns-in-1 c = rw c.in-1.is
 
 pub returns-in-2 : goal.returns-in-2
 unfolding p_of
-returns-in-2 c = rw c.in-2.keys3
+returns-in-2 c = rw c.in-2.is
 
 pub returns-in_default : goal.returns-in_default
 unfolding p_of
-returns-in_default c = rw (ne_eqb _ 0 c.in_default.rest.0.0.1, ne_eqb _ 1 c.in_default.rest.0.1, ne_eqb _ 2 c.in_default.rest.1)
+returns-in_default c = rw (ne_eqb _ 0 c.in_default.in_default-own.rest.0.0.1, ne_eqb _ 1 c.in_default.in_default-own.rest.0.1, ne_eqb _ 2 c.in_default.in_default-own.rest.1)
