@@ -20,12 +20,12 @@ inside_told lo hi x e = told (leb lo x) (leb x hi) (λ a. leb-true lo x a) (λ a
 pub inside_test : (lo hi x : ℕ) → lo ≤ x → x ≤ hi → inside lo hi x ≡ true
 inside_test lo hi x a b = simp (le-leb _ _ a, le-leb _ _ b)
 
--- what the code's test of a test's opposite tells
-pub passed : {r t : Bool} → r ≡ t → not r ≡ false → t ≡ true
-passed a b = sym a ∙ not-false _ b
+-- what the code's test of a test tells
+pub passed : {r t : Bool} → r ≡ t → r ≡ true → t ≡ true
+passed a b = sym a ∙ b
 
-pub failed : {r t : Bool} → r ≡ t → not r ≡ true → t ≡ false
-failed a b = sym a ∙ not-true _ b
+pub failed : {r t : Bool} → r ≡ t → r ≡ false → t ≡ false
+failed a b = sym a ∙ b
 
 module _ (f m n d : ℕ) where
   pub input_refused : inside 1000000 50000000 f ≡ false → output_of f m n d ≡ Refused 1

@@ -5,9 +5,6 @@ use Rattle.std.proofs.Common.{rules}
 use native.Mathlib.Omega.{arith}
 use Rattle.pll.proofs.fixed.unit.Goals as goal
 
-pub unit_spec : {M : Type 1} → statement M
-unit_spec = tie.close (tie.spec cast-b recip-requires mul-result returns)
-
 pub overflow_mul-result : goal.overflow_mul-result
 unfolding unit_of
 overflow_mul-result c = let h = unit_le c.args.f.0 c.args.m.0 (omega arith) (omega arith) in rw c.recip.ensures (omega arith)

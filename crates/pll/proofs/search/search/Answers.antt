@@ -12,11 +12,11 @@ use Rattle.std.proofs.Common.{rules}
 use native.Mathlib.Omega.{arith}
 use Rattle.pll.proofs.search.search.Goals as goal
 
+-- at pass k one turn of the walk is left for this look
 fuel : (k : ℕ) → k ≤ 10008 → 10009 - k ≡ suc (10009 - (k + 1))
 fuel k h = omega arith
 
 -- the VCO by the unit that is kept is the VCO
-
 v-is : (f m n : ℕ) {u v : ℕ} → v ≡ vco_by u n → u ≡ unit_of f m → v ≡ vco_of f n m
 v-is f m n a b = a ∙ rw b (vco_by_lem f m n)
 

@@ -13,9 +13,7 @@ use native.Mathlib.Omega.{arith}
 use Rattle.pll.proofs.search.search.Given as goal
 
 abbrev pub invariant-loop-m : goal.invariant-loop-m
-invariant-loop-m l = Room l.f.0 l.m l.n l.k × (l.u ≡ unit_of l.f.0 l.m) × (spec.walk (10009 - l.k) l.f.0 l.p l.q (spec.look l.f.0 l.p l.q l.m l.n) l.m l.n l.k ≡ spec.whole_walk l.f.0 l.p l.q)
+invariant-loop-m l = Room l.f.0 l.m l.n l.passes × (l.u ≡ unit_of l.f.0 l.m) × (spec.walk (10009 - l.passes) l.f.0 l.p l.q (spec.look l.f.0 l.p l.q l.m l.n) l.m l.n l.passes ≡ spec.whole_walk l.f.0 l.p l.q)
 
 abbrev pub decreases-loop-m : goal.decreases-loop-m
-decreases-loop-m l = 10009 - l.k
-
--- at pass l.k one turn of the walk is left for this look
+decreases-loop-m l = 10009 - l.passes

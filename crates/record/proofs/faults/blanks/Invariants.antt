@@ -8,7 +8,7 @@ use Rattle.record.proofs.Blanks.{begun, ended}
 use Rattle.record.proofs.faults.blanks.Given as goal
 
 abbrev pub invariant-loop-at : goal.invariant-loop-at
-invariant-loop-at l = (breach_from l.bytes l.initial.so-far (blanks l.from l.end) ≡ breach_from l.bytes l.so_far (blanks l.at l.end)) × (l.at ≤ l.end)
+invariant-loop-at l = (breach_from l.bytes l.initial.so_far (blanks l.from l.end) ≡ breach_from l.bytes l.so_far (blanks l.at l.end)) × (l.at ≤ l.end)
 
 abbrev pub decreases-loop-at : goal.decreases-loop-at
 decreases-loop-at l = l.end - l.at
