@@ -41,11 +41,11 @@ pub stands : {s t x : List ℕ} {i j : ℕ} → Wrote s i x t j → i + length x
 stands {s} {t} {x} {i} {j} a h = a.is ∙ sets-eq x s i h ∙ ap (λ (n : ℕ). take i s ++ x ++ drop n s) (sym a.ends)
 
 -- what a test for room tells
-pub roomy : (a b : ℕ) {r : Bool} → r ≡ leb a b → not r ≡ false → a ≤ b
-roomy a b e f = leb-true a b (sym e ∙ not-false _ f)
+pub roomy : (a b : ℕ) {r : Bool} → r ≡ leb a b → r ≡ true → a ≤ b
+roomy a b e f = leb-true a b (sym e ∙ f)
 
-pub scarce : (a b : ℕ) {r : Bool} → r ≡ leb a b → not r ≡ true → b < a
-scarce a b e f = leb-false a b (sym e ∙ not-true _ f)
+pub scarce : (a b : ℕ) {r : Bool} → r ≡ leb a b → r ≡ false → b < a
+scarce a b e f = leb-false a b (sym e ∙ f)
 
 -- with room the text is placed
 pub placed : {s x t : List ℕ} {i most n : ℕ} → i + most ≤ length s → n ≤ i + most → Wrote s i x t n → Placing s i x most t (Next n)
