@@ -127,6 +127,9 @@ def edit(text, names):
 def apart(file, text):
     """`firstOf` of kinds and `first-of` of startup, which port.py made one word, which is a tactic's too."""
     new = 'first_place' if file.startswith('crates/startup/proofs/Demands') else 'first_refusal'
+    if file == 'crates/planner/proofs/Pieces.antt':
+        # `tail-of`, a lemma, beside `tailOf`
+        return re.sub(r'^tail_of (?=: |zero|\(suc)|(?<=rw \()tail_of(?= \(length)', lambda found: found.group(0).replace('tail_of', 'tail_of_lem'), text, flags=re.M)
     if file.endswith('.edit'):
         return text
     if file.endswith('.rt'):

@@ -37,9 +37,9 @@ more b k size e p q = record {
   near = omega (arith, p.near, q.near);
 }
 
-tail_of : (n : ℕ) → (n ≡ 0 → ⊥) → tail_of n ≡ no_line 14
-tail_of zero h = absurd (h refl)
-tail_of (suc n) h = refl
+tail_of_lem : (n : ℕ) → (n ≡ 0 → ⊥) → tail_of n ≡ no_line 14
+tail_of_lem zero h = absurd (h refl)
+tail_of_lem (suc n) h = refl
 
 -- whole records alone
 pub without_tail : (b : List ℕ) → length b % RECORD ≡ 0 → lines_of b (length b / RECORD) ≡ text_of b
@@ -49,7 +49,7 @@ without_tail b e = rw (e, append-nil)
 -- a short tail after them
 pub with_tail : (b : List ℕ) (from size : ℕ) → size < RECORD → (length b % RECORD ≡ 0 → ⊥) → lines_of b (length b / RECORD) ++ answer_line (take size (drop from b)) ≡ text_of b
 unfolding text_of
-with_tail b from size l e = rw (tail_of (length b % RECORD) e, another_length (take size (drop from b)) (λ z. omega (arith, length-take size (drop from b))))
+with_tail b from size l e = rw (tail_of_lem (length b % RECORD) e, another_length (take size (drop from b)) (λ z. omega (arith, length-take size (drop from b))))
 
 -- the buffer begins with what was put at its start
 pub begins : {s x t : List ℕ} {n : ℕ} → Wrote s 0 x t n → n ≤ length s → Begins t n x
