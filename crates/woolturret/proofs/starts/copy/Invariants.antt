@@ -1,0 +1,15 @@
+-- `starts::copy` meets its contract: the elements before i are those of `from`.
+use Prim.Native.Nat.{◌-◌, ◌≤◌}
+use mathlib.Core.Path.{◌≡◌, refl}
+use native.Mathlib.Omega.{arith}
+use lib.ListN.{length, length-set}
+use lib.Seq.{paste, paste-zero}
+use Rattle.woolturret.proofs.Copying.{copied_all, one_more}
+use Rattle.std.proofs.Common.{rules}
+use Rattle.woolturret.proofs.starts.copy.Given as goal
+
+abbrev pub invariant-loop-i : goal.invariant-loop-i
+invariant-loop-i l = (l.to ≡ paste l.initial.to 0 l.from l.i) × (length l.to ≡ length l.initial.to) × (l.i ≤ length l.from) × (length l.initial.to ≡ length l.from)
+
+abbrev pub decreases-loop-i : goal.decreases-loop-i
+decreases-loop-i l = length l.from - l.i
