@@ -8,7 +8,6 @@ use native.Mathlib.Omega.{arith}
 use lib.Dec.{ltb}
 use lib.ListN.{take}
 use borrow.Author.Tests.{ltb-true, ltb-false, lt-ltb, le-ltb}
-use Rattle.pll.proofs.Dividers.{split}
 use Rattle.record.specs.Places.{RECORD}
 use Rattle.planner.specs.Output.{text_of, Holds}
 use Rattle.planner.specs.Asking.{asked_of, answered_of, rest_of, Took, Stepped, Asked, last, more}

@@ -1,9 +1,9 @@
 -- What the output of settings as they stand comes to, by the tests on them; each case is read off the definition, then all are put into one view.
 use Prim.Native.Nat.{ℕ, ◌≤◌}
 use mathlib.Core.Path.{◌≡◌, refl, sym, ◌∙◌}
-use mathlib.Core.Bool.{Bool, true, false, true≢false, ◌&&◌, not}
+use mathlib.Core.Bool.{Bool, true, false, true≢false, ◌&&◌}
 use lib.Dec.{leb}
-use borrow.Author.Tests.{leb-true, le-leb, not-true, not-false}
+use borrow.Author.Tests.{leb-true, le-leb}
 use Rattle.pll.specs.Fixed.{inside, InputOk, SettingsOk, vco_of, out_of, output_of}
 use Rattle.pll.specs.declared.Outcome.{Outcome}
 use Rattle.pll.specs.declared.Outcome.TheVariants.{Refused, At}

@@ -1,5 +1,5 @@
 -- A run goes on by one store more, one wait more, a list more; its polls add up, and what had room at its beginning has room after it.
-use Prim.Native.Nat.{ℕ, zero, suc, ◌+◌, ◌≤◌}
+use Prim.Native.Nat.{ℕ, zero, suc, ◌≤◌}
 use native.Mathlib.Omega.{arith}
 use mathlib.Core.Path.{◌≡◌, refl, ◌∙◌, ap, sym, subst}
 use mathlib.Core.Bool.{Bool, true, false, cond, false≢true}

@@ -1,6 +1,5 @@
 -- `answer_of` meets its contract: the answer of what the bytes are read as.
 use Rattle.answer.proofs.Lines.{read_as}
-use Rattle.std.proofs.Common.{rules}
 use Rattle.answer.proofs.answer_of.Goals as goal
 
 pub returns : goal.returns

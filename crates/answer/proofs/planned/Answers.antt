@@ -1,6 +1,5 @@
 -- `planned` meets its contract: case by case.
 use Rattle.answer.proofs.Lines.{ready, refused}
-use Rattle.std.proofs.Common.{rules}
 use Rattle.answer.proofs.planned.Goals as goal
 
 pub returns-in-Refused : goal.returns-in-Refused

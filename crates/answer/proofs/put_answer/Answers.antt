@@ -1,6 +1,5 @@
 -- `put_answer` meets its contract: the line of the answer that the bytes have.
 use Rattle.answer.proofs.Lines.{answered}
-use Rattle.std.proofs.Common.{rules}
 use Rattle.answer.proofs.put_answer.Goals as goal
 
 pub returns : goal.returns

@@ -1,6 +1,5 @@
 -- `put_told` meets its contract: by the number.
 use Rattle.answer.proofs.Lines.{accepted, not_accepted}
-use Rattle.std.proofs.Common.{rules}
 use Rattle.answer.proofs.put_told.Goals as goal
 
 pub returns-then-answer-eq0 : goal.returns-then-answer-eq0

@@ -1,7 +1,6 @@
 -- `quantities_of` meets its contract: number by number.
 use Rattle.answer.specs.Answer.{quantities_of}
 use Rattle.answer.proofs.Lines.{bit}
-use Rattle.std.proofs.Common.{rules}
 use Rattle.answer.proofs.quantities_of.Goals as goal
 
 pub returns : goal.returns

@@ -1,6 +1,5 @@
 -- `read` meets its contract: case by case.
 use Rattle.answer.proofs.Lines.{planned, malformed}
-use Rattle.std.proofs.Common.{rules}
 use Rattle.answer.proofs.read.Goals as goal
 
 pub returns-in-Malformed : goal.returns-in-Malformed

@@ -4,7 +4,6 @@ use mathlib.Core.Path.{◌≡◌}
 use Rattle.kinds.specs.declared.CFGR.{CFGR}
 use Rattle.kinds.specs.declared.Setting.{Setting}
 use Rattle.calls.specs.declared.Setter.{Setter}
-use Rattle.std.proofs.Common.{rules}
 use Rattle.calls.proofs.call.Goals as goal
 
 -- what the setter that a value names hands back

@@ -1,5 +1,5 @@
 -- `calculate_clocks` meets its contract: the check's number, or what the settings give.
-use Rattle.std.proofs.Common.{sym, ◌∙◌, rules}
+use Rattle.std.proofs.Common.{sym, ◌∙◌}
 use Rattle.kinds.proofs.Check.{check_told}
 use Rattle.clocks.proofs.Deriving.{derived_in, derived_out}
 use Rattle.clocks.proofs.calculate_clocks.Goals as goal

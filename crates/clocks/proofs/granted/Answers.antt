@@ -1,5 +1,5 @@
 -- `granted` meets its contract: HCLK, both PCLKs by their caps, and what is handed back, joined.
-use Rattle.std.proofs.Common.{lit≤, rules}
+use Rattle.std.proofs.Common.{lit≤}
 use Rattle.clocks.proofs.Deriving.{hclk_range, hclk_facts, granted_is}
 use Rattle.clocks.proofs.granted.Goals as goal
 

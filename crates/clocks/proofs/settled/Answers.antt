@@ -1,6 +1,6 @@
 -- `settled` meets its contract: 8 above 216 MHz, else what SYSCLK grants.
 use Rattle.clocks.proofs.Deriving.{input_told, sysclk_within, settled_8, settled_at}
-use Rattle.std.proofs.Common.{arith, rules}
+use Rattle.std.proofs.Common.{arith}
 use Rattle.clocks.proofs.settled.Goals as goal
 
 pub sysclk-sysclk-requires : goal.sysclk-sysclk-requires

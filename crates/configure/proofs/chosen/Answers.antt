@@ -1,6 +1,5 @@
 -- `chosen` meets its contract: by its parts; what is wanted is at least 1 and at most 216 MHz.
 use Rattle.configure.proofs.Configuring.{wanted_in_lem, chosen_is}
-use Rattle.std.proofs.Common.{rules}
 use Rattle.configure.proofs.chosen.Goals as goal
 
 pub p_window-requires : goal.p_window-requires

@@ -1,6 +1,5 @@
 -- `kept` meets its contract: by whether the settings fit.
 use Rattle.configure.proofs.Configuring.{kept_same, kept_else}
-use Rattle.std.proofs.Common.{rules}
 use Rattle.configure.proofs.kept.Goals as goal
 
 pub returns-then-fits : goal.returns-then-fits

@@ -2,7 +2,6 @@
 use Rattle.configure.proofs.Configuring.{configured_in, configured_out}
 use Rattle.kinds.proofs.Check.{check_told}
 use mathlib.Core.Path.{sym, ◌∙◌}
-use Rattle.std.proofs.Common.{rules}
 use Rattle.configure.proofs.pll_configure.Goals as goal
 
 pub chosen-requires : goal.chosen-requires

@@ -1,6 +1,5 @@
 -- `settle` meets its contract: window by window.
 use Rattle.configure.proofs.Configuring.{settled_off, settled_kept, settled_found}
-use Rattle.std.proofs.Common.{rules}
 use Rattle.configure.proofs.settle.Goals as goal
 
 pub returns-in-Absent-p : goal.returns-in-Absent-p

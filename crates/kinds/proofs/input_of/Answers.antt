@@ -1,6 +1,5 @@
 -- `input_of` meets its contract: case by case.
 use Rattle.kinds.specs.Config.{input_of}
-use Rattle.std.proofs.Common.{rules}
 use Rattle.kinds.proofs.input_of.Goals as goal
 
 pub returns-in-Absent : goal.returns-in-Absent

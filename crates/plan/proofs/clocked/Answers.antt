@@ -1,6 +1,5 @@
 -- `clocked` meets its contract: by what is derived.
 use Rattle.plan.proofs.Planning.{derived_checked, clocked_refused, clocked_at}
-use Rattle.std.proofs.Common.{rules}
 use Rattle.plan.proofs.clocked.Goals as goal
 
 pub late_refusal-requires : goal.late_refusal-requires

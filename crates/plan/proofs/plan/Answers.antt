@@ -1,6 +1,5 @@
 -- `plan` meets its contract: by what pll_configure answers.
 use Rattle.plan.proofs.Planning.{plan_refused, plan_clocked}
-use Rattle.std.proofs.Common.{rules}
 use Rattle.plan.proofs.plan.Goals as goal
 
 pub returns-in-Refused : goal.returns-in-Refused

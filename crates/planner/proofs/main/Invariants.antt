@@ -1,10 +1,7 @@
 -- `main` ends: each step leaves fewer records to read.
 use Prim.Native.Nat.{◌≤◌}
 use mathlib.Core.Path.{◌≡◌}
-use native.Mathlib.Omega.{arith}
 use lib.ListN.{length}
-use Rattle.planner.proofs.Asking.{stepped_less}
-use Rattle.std.proofs.Common.{rules}
 use Rattle.planner.proofs.main.Given as goal
 
 abbrev pub invariant-loop-left : goal.invariant-loop-left

@@ -1,9 +1,7 @@
 -- `take_in` meets its contract: no read brings more than is still wanted, and each but the last brings some.
 use Prim.Native.Nat.{◌-◌, ◌≤◌}
 use mathlib.Core.Path.{◌≡◌}
-use mathlib.Core.Bool.{false≢true}
 use lib.ListN.{length}
-use Rattle.std.proofs.Common.{rules}
 use Rattle.planner.proofs.take_in.Given as goal
 
 abbrev pub invariant-loop-done : goal.invariant-loop-done

@@ -2,7 +2,6 @@
 use mathlib.Core.Path.{sym, ◌∙◌}
 use Rattle.pll.proofs.Outputs.{input_told, passed, failed}
 use Rattle.pll.proofs.Answers.{search_refused, search_none, search_q, search_p}
-use Rattle.std.proofs.Common.{rules}
 use Rattle.pll.proofs.calculate_mnpq.Goals as goal
 
 pub returns-then-not-within : goal.returns-then-not-within

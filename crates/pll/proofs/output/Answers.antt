@@ -2,7 +2,6 @@
 use mathlib.Core.Path.{sym}
 use Rattle.pll.proofs.Reciprocal.{unit_le, vco_le, vco_by_lem}
 use Rattle.pll.proofs.Outputs.{inside_told, passed, failed, input_refused, m_refused, n_refused, d_refused, output_at}
-use Rattle.std.proofs.Common.{rules}
 use Rattle.pll.proofs.output.Goals as goal
 
 pub returns-then-not-within : goal.returns-then-not-within

@@ -2,7 +2,6 @@
 use borrow.Author.Tests.{eq-eqb, ne_eqb}
 use Rattle.record.specs.Places.{RECORD}
 use Rattle.record.specs.Reading.{read_of}
-use Rattle.std.proofs.Common.{rules}
 use Rattle.record.proofs.read_record.Goals as goal
 
 pub returns-then-bytes-eq-RECORD : goal.returns-then-bytes-eq-RECORD

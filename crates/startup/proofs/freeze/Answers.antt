@@ -4,7 +4,6 @@ use borrow.Author.Tests.{eq-eqb, ne_eqb}
 use Rattle.startup.specs.Start.{start_of}
 use native.Mathlib.Omega.{arith}
 use Rattle.kinds.proofs.Check.{outside_zero}
-use Rattle.std.proofs.Common.{rules}
 use Rattle.startup.proofs.freeze.Goals as goal
 
 pub planned-requires : goal.planned-requires

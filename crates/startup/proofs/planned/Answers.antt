@@ -1,6 +1,5 @@
 -- `planned` meets its contract: by what the plan answers.
 use Rattle.startup.proofs.Starting.{start_refused, start_ready}
-use Rattle.std.proofs.Common.{rules}
 use Rattle.startup.proofs.planned.Goals as goal
 
 pub returns-in-Refused : goal.returns-in-Refused

@@ -1,7 +1,6 @@
 -- `run` meets its contract: its sections one after the other, and room for the waits of each.
 use mathlib.Core.Path.{sym}
 use Rattle.startup.proofs.Runs.{begins, more, any_run, room, first, after, after_puts}
-use Rattle.std.proofs.Common.{rules}
 use Rattle.startup.proofs.run.Goals as goal
 
 pub lsi_part-m-requires : goal.lsi_part-m-requires

@@ -1,14 +1,8 @@
 -- `put_numbers` meets its contract: after i turns the first i numbers stand, each in at most eleven bytes.
 use Prim.Native.Nat.{◌+◌, ◌*◌, ◌-◌, ◌≤◌}
-use native.Mathlib.Omega.{arith}
-use mathlib.Core.Path.{ap, sym}
-use lib.ListN.{length, take, get_or}
-use lib.Seq.{take_all}
-use Rattle.std.proofs.Common.{rules}
+use lib.ListN.{length, take}
 use Rattle.text.specs.Line.{spaced}
 use Rattle.text.specs.Placing.{Wrote}
-use Rattle.text.proofs.Writing.{join, none, renamed, same}
-use Rattle.text.proofs.Spacing.{eleven, spaced_more}
 use Rattle.text.proofs.put_numbers.Given as goal
 
 abbrev pub invariant-loop-i : goal.invariant-loop-i

@@ -4,7 +4,6 @@ use mathlib.Core.Path.{sym}
 use Rattle.text.proofs.Writing.{join, renamed}
 use Rattle.text.proofs.Digits.{ten}
 use Rattle.text.proofs.Spacing.{spaced_one}
-use Rattle.std.proofs.Common.{rules}
 use Rattle.text.proofs.put_spaced.Goals as goal
 
 pub put_decimal-requires : goal.put_decimal-requires

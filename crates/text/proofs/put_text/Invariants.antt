@@ -1,13 +1,8 @@
 -- `put_text` meets its contract: after i turns the first i bytes stand.
 use Prim.Native.Nat.{◌+◌, ◌-◌, ◌≤◌}
-use native.Mathlib.Omega.{arith}
-use mathlib.Core.Path.{◌≡◌, sym}
+use mathlib.Core.Path.{◌≡◌}
 use lib.ListN.{length, take}
-use lib.Seq.{take_all}
-use Rattle.std.proofs.Common.{rules}
 use Rattle.text.specs.Placing.{Wrote}
-use Rattle.text.proofs.Writing.{join, none, renamed, same}
-use Rattle.text.proofs.Spacing.{take_more}
 use Rattle.text.proofs.put_text.Given as goal
 
 abbrev pub invariant-loop-i : goal.invariant-loop-i

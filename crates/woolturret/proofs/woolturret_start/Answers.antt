@@ -1,7 +1,6 @@
 -- `woolturret_start` meets its contract: by its limit, then from what the record reads as.
 use mathlib.Core.Path.{sym, ◌∙◌}
 use Rattle.woolturret.proofs.Starting.{start_13, start_malformed, start_read}
-use Rattle.std.proofs.Common.{rules}
 use Rattle.woolturret.proofs.woolturret_start.Goals as goal
 
 pub returns-then-number-ne0 : goal.returns-then-number-ne0

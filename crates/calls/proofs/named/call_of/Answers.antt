@@ -1,7 +1,6 @@
 -- `named::call_of` meets its contract: the arm of a number is the list's element there, and the last arm is past its end.
 use mathlib.Core.Path.{refl}
 use Rattle.calls.proofs.Lists.{picked, unpicked}
-use Rattle.std.proofs.Common.{rules}
 use Rattle.calls.proofs.named.call_of.Goals as goal
 
 pub returns-in-0 : goal.returns-in-0

@@ -1,6 +1,5 @@
 -- `named::pllp` meets its contract: the arm of a number is the list's element there, and the last arm is past its end.
 use Rattle.calls.proofs.Lists.{picked, unpicked}
-use Rattle.std.proofs.Common.{rules}
 use Rattle.calls.proofs.named.pllp.Goals as goal
 
 pub returns-in-0 : goal.returns-in-0

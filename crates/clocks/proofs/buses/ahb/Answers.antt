@@ -1,5 +1,5 @@
 -- `buses::ahb` meets its contract: HCLK wanted, HPRE's row, HCLK granted, joined.
-use Rattle.std.proofs.Common.{◌≤◌, arith, rules}
+use Rattle.std.proofs.Common.{◌≤◌, arith}
 use Rattle.clocks.proofs.Table.{divider_power}
 use Rattle.clocks.proofs.Deriving.{wanted_high, ahb_is}
 use Rattle.clocks.proofs.buses.ahb.Goals as goal

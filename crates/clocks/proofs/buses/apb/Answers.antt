@@ -1,6 +1,6 @@
 -- `buses::apb` meets its contract: PCLK wanted, PPRE's row, PCLK granted and its timers' clock, joined.
 use Rattle.kinds.specs.Table.{Between}
-use Rattle.std.proofs.Common.{le_trans, div-le_self, arith, rules}
+use Rattle.std.proofs.Common.{arith}
 use Rattle.clocks.proofs.Deriving.{wanted_range, ppre_pos, apb_is}
 use Rattle.clocks.proofs.buses.apb.Goals as goal
 

@@ -1,6 +1,5 @@
 -- `buses::hpre` meets its contract: the last row for 0, else the ratio's row.
 use Rattle.clocks.proofs.Deriving.{hpre_none, hpre_by}
-use Rattle.std.proofs.Common.{rules}
 use Rattle.clocks.proofs.buses.hpre.Goals as goal
 
 pub returns-then-w-eq0 : goal.returns-then-w-eq0

@@ -1,6 +1,6 @@
 -- `buses::timclk` meets its contract: its test is the definition's.
 use Rattle.clocks.specs.Derive.{timclk_of}
-use Rattle.std.proofs.Common.{rules, eq-eqb, ne_eqb}
+use Rattle.std.proofs.Common.{eq-eqb, ne_eqb}
 use Rattle.clocks.proofs.buses.timclk.Goals as goal
 
 pub returns-then-d-eq1 : goal.returns-then-d-eq1

@@ -1,5 +1,5 @@
 -- `buses::wanted` meets its contract: with a request and without.
-use Rattle.std.proofs.Common.{◌∙◌, rules}
+use Rattle.std.proofs.Common.{◌∙◌}
 use Rattle.clocks.specs.Derive.{wanted_of}
 use Rattle.clocks.proofs.buses.wanted.Goals as goal
 

@@ -1,6 +1,5 @@
 -- `outputs::output` meets its contract: settings that keep their limits are never refused.
 use Rattle.clocks.proofs.Deriving.{not_refused, output_is}
-use Rattle.std.proofs.Common.{rules}
 use Rattle.clocks.proofs.outputs.output.Goals as goal
 
 pub returns-in-Refused : goal.returns-in-Refused

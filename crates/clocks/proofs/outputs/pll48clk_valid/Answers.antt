@@ -1,7 +1,5 @@
 -- `outputs::pll48clk_valid` meets its contract: choice by choice.
-use Rattle.pll.proofs.Settings.{p_settings}
 use Rattle.clocks.proofs.Deriving.{valid_none, valid_q, valid_sai, valid_unused}
-use Rattle.std.proofs.Common.{rules}
 use Rattle.clocks.proofs.outputs.pll48clk_valid.Goals as goal
 
 pub returns-in-Absent : goal.returns-in-Absent

@@ -1,7 +1,5 @@
 -- `outputs::sysclk` meets its contract: with the PLL and without.
-use Rattle.pll.proofs.Settings.{p_settings}
 use Rattle.clocks.proofs.Deriving.{sysclk_on, sysclk_off}
-use Rattle.std.proofs.Common.{rules}
 use Rattle.clocks.proofs.outputs.sysclk.Goals as goal
 
 pub returns-then-l : goal.returns-then-l

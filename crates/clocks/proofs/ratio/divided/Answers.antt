@@ -1,5 +1,5 @@
 -- `ratio::divided` meets its contract. `proofs/Exactly.antt` says that the quotient is exact.
-use Rattle.std.proofs.Common.{ℕ, ◌/◌, sym, ap, ◌∙◌, arith, rules}
+use Rattle.std.proofs.Common.{ℕ, ◌/◌, sym, ap, ◌∙◌, arith}
 use Rattle.clocks.proofs.Exactly.{part_above, part_under, part_is, part_small, whole_of_power}
 use Rattle.clocks.proofs.ratio.divided.Goals as goal
 

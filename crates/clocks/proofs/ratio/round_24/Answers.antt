@@ -1,5 +1,5 @@
 -- `ratio::round_24` meets its contract: each branch knows how many digits x has past 24.
-use Rattle.std.proofs.Common.{◌∙◌, rules}
+use Rattle.std.proofs.Common.{◌∙◌}
 use Rattle.clocks.proofs.Rounded.{past_is, past_none, round24_at}
 use Rattle.clocks.proofs.ratio.round_24.Goals as goal
 

@@ -1,6 +1,5 @@
 -- `p_output` meets its contract: settings that are checked have an output.
 use Rattle.configure.proofs.Configuring.{p_output_is, p_output_some, p_output_hertz}
-use Rattle.std.proofs.Common.{rules}
 use Rattle.configure.proofs.settings.p_output.Goals as goal
 
 pub returns-in-Refused : goal.returns-in-Refused

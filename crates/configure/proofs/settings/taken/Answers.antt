@@ -1,7 +1,6 @@
 -- `taken` meets its contract: case by case of what was found.
 use Rattle.configure.specs.Configure.{taken_of}
 use Rattle.configure.proofs.Configuring.{taken_pair}
-use Rattle.std.proofs.Common.{rules}
 use Rattle.configure.proofs.settings.taken.Goals as goal
 
 pub returns-in-BadInput : goal.returns-in-BadInput

@@ -1,7 +1,6 @@
 -- `base_of` meets its contract: by arithmetic.
 use Rattle.pll.specs.Outputs.{base_of}
 use native.Mathlib.Omega.{arith}
-use Rattle.std.proofs.Common.{rules}
 use Rattle.configure.proofs.windows.base_of.Goals as goal
 
 pub returns : goal.returns

@@ -1,7 +1,6 @@
 -- `p_window` meets its contract: by its test.
 use Rattle.configure.specs.Configure.{p_window_of}
 use borrow.Author.Tests.{eq-eqb, ne_eqb}
-use Rattle.std.proofs.Common.{rules}
 use Rattle.configure.proofs.windows.p_window.Goals as goal
 
 pub returns-then-wanted-base : goal.returns-then-wanted-base

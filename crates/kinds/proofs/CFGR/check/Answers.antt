@@ -1,7 +1,6 @@
 -- `CFGR::check` meets its contract: the groups' first refusals, joined in the order of their numbers.
 use Rattle.kinds.proofs.Joins.{firsts}
 use Rattle.kinds.specs.Limits.{check_of}
-use Rattle.std.proofs.Common.{rules}
 use Rattle.kinds.proofs.CFGR.check.Goals as goal
 
 pub returns : goal.returns

@@ -1,6 +1,5 @@
 -- `CFGR::hse` meets its contract: taken where the range test of the clock made gives 0, else kept as it came.
 use Rattle.kinds.proofs.Joins.{hse_accepted, hse_kept}
-use Rattle.std.proofs.Common.{rules}
 use Rattle.kinds.proofs.CFGR.hse.Goals as goal
 
 pub returns-then-number-eq0 : goal.returns-then-number-eq0

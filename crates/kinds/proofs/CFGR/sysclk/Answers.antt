@@ -1,6 +1,5 @@
 -- `CFGR::sysclk` meets its contract: taken where the range test gives 0, else kept as it came.
 use Rattle.kinds.proofs.Joins.{accepted, kept}
-use Rattle.std.proofs.Common.{rules}
 use Rattle.kinds.proofs.CFGR.sysclk.Goals as goal
 
 pub returns-then-refusal-eq0 : goal.returns-then-refusal-eq0

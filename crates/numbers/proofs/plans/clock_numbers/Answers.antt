@@ -2,7 +2,6 @@
 use mathlib.Core.Path.{refl}
 use Rattle.numbers.proofs.Lists.{both}
 use Rattle.numbers.specs.Plans.{clock_numbers}
-use Rattle.std.proofs.Common.{rules}
 use Rattle.numbers.proofs.plans.clock_numbers.Goals as goal
 
 pub returns : goal.returns

@@ -1,6 +1,5 @@
 -- `i2s_late` meets its contract: by its flag.
 use Rattle.plan.proofs.Planning.{i2s_on, i2s_off}
-use Rattle.std.proofs.Common.{rules}
 use Rattle.plan.proofs.limits.i2s_late.Goals as goal
 
 pub returns-then-i2s : goal.returns-then-i2s

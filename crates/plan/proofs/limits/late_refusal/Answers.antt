@@ -1,6 +1,5 @@
 -- `limits::late_refusal` meets its contract: by its parts, whose limits the check has kept.
 use Rattle.plan.proofs.Planning.{limits_ask, limits_are}
-use Rattle.std.proofs.Common.{rules}
 use Rattle.plan.proofs.limits.late_refusal.Goals as goal
 
 pub sai_late-requires : goal.sai_late-requires

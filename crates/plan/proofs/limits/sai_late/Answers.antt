@@ -1,9 +1,5 @@
 -- `sai_late` meets its contract: by its flag; P is above 0.
 use Rattle.plan.proofs.Planning.{sai_on, sai_off}
-use Rattle.pll.proofs.Settings.{p_range}
-use Prim.Native.Nat.{◌≤◌}
-use native.Mathlib.Omega.{arith}
-use Rattle.std.proofs.Common.{rules}
 use Rattle.plan.proofs.limits.sai_late.Goals as goal
 
 pub returns-then-sai : goal.returns-then-sai

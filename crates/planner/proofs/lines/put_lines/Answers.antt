@@ -1,12 +1,9 @@
 -- `put_lines` meets its contract: after i turns the lines of the first i records stand.
-use Prim.Native.Nat.{◌+◌, ◌*◌, ◌-◌, ◌≤◌}
+use Prim.Native.Nat.{◌+◌, ◌*◌, ◌-◌}
 use native.Mathlib.Omega.{arith}
 use mathlib.Core.Path.{◌≡◌}
-use Rattle.std.proofs.Common.{rules}
 use Rattle.record.specs.Places.{RECORD}
-use Rattle.text.specs.Line.{LINE}
 use Rattle.text.proofs.Writing.{same}
-use Rattle.planner.specs.Output.{lines_of, Filled}
 use Rattle.planner.proofs.Pieces.{begun, more}
 use Rattle.planner.proofs.lines.put_lines.Goals as goal
 

@@ -5,7 +5,6 @@ use lib.ListN.{length}
 use Rattle.record.specs.Places.{RECORD}
 use Rattle.text.proofs.Writing.{join, renamed}
 use Rattle.planner.proofs.Pieces.{without_tail, with_tail, begins}
-use Rattle.std.proofs.Common.{rules}
 use Rattle.planner.proofs.lines.put_text.Goals as goal
 
 pub returns-then-from-input : goal.returns-then-from-input

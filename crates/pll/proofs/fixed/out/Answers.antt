@@ -1,7 +1,6 @@
 -- The products fit by the bounds on the VCO and on r(d).
 use Rattle.pll.specs.Fixed.{out_of}
 use Rattle.pll.proofs.Reciprocal.{out_product}
-use Rattle.std.proofs.Common.{rules}
 use native.Mathlib.Omega.{arith}
 use Rattle.pll.proofs.fixed.out.Goals as goal
 

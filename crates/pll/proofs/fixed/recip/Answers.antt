@@ -1,8 +1,6 @@
 -- The sum fits since a quotient is at most 2^31; the rest is the definition.
 use Rattle.pll.specs.Fixed.{recip_of}
-use Rattle.pll.proofs.Reciprocal.{quotient_le}
 use Rattle.std.proofs.Common.{rules}
-use native.Mathlib.Omega.{arith}
 use Rattle.pll.proofs.fixed.recip.Goals as goal
 
 pub returns : goal.returns

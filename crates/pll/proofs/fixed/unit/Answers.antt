@@ -1,7 +1,6 @@
 -- The product fits by the bound on r(M); the rest is the definition.
 use Rattle.pll.specs.Skip.{unit_of}
 use Rattle.pll.proofs.Reciprocal.{unit_le}
-use Rattle.std.proofs.Common.{rules}
 use native.Mathlib.Omega.{arith}
 use Rattle.pll.proofs.fixed.unit.Goals as goal
 

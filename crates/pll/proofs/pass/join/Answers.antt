@@ -1,6 +1,5 @@
 -- The cases are the definition's.
 use Rattle.pll.specs.Walk.{join}
-use Rattle.std.proofs.Common.{rules}
 use Rattle.pll.proofs.pass.join.Goals as goal
 
 pub returns-in-Missed : goal.returns-in-Missed

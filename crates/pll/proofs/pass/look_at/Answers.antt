@@ -3,7 +3,6 @@ use Prim.Native.Nat.{ℕ, ◌*◌, ◌/◌, ◌≤◌, ◌<◌}
 use mathlib.Core.Path.{sym, ◌∙◌}
 use Rattle.pll.proofs.Dividers.{quotient_least, quotient_below}
 use Rattle.pll.proofs.Looks.{look_past, look_low, look_high, look_end, look_judge, judge_slow, judge_fast, judge_join}
-use Rattle.std.proofs.Common.{rules}
 use native.Mathlib.Omega.{arith}
 use Rattle.pll.proofs.pass.look_at.Goals as goal
 

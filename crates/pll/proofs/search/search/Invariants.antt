@@ -1,15 +1,9 @@
 -- The loop keeps that the walk from here comes to what the whole walk does, and that there is room for its passes; a jump is so many turns of the walk.
-use Prim.Native.Nat.{ℕ, suc, ◌+◌, ◌-◌, ◌≤◌}
-use mathlib.Core.Path.{◌≡◌, refl, sym, ◌∙◌}
-use Rattle.pll.specs.Fixed.{vco_of}
+use Prim.Native.Nat.{◌-◌}
+use mathlib.Core.Path.{◌≡◌}
 use Rattle.pll.specs.Walk as spec
-use Rattle.pll.specs.Skip.{unit_of, vco_by}
-use Rattle.pll.proofs.Reciprocal.{unit_le, unit_pos, vco_by_lem}
-use Rattle.pll.proofs.Looks.{told, next_m_small, next_n_range}
-use Rattle.pll.proofs.Room.{Room, room_start, room_here, room_m}
-use Rattle.pll.proofs.Skipping.{turn_refuse, turn_m, turn_good, target_low, target_high, skipped}
-use Rattle.std.proofs.Common.{rules}
-use native.Mathlib.Omega.{arith}
+use Rattle.pll.specs.Skip.{unit_of}
+use Rattle.pll.proofs.Room.{Room}
 use Rattle.pll.proofs.search.search.Given as goal
 
 abbrev pub invariant-loop-m : goal.invariant-loop-m

@@ -1,6 +1,5 @@
 -- The quotient and its limits are the definition's.
 use Rattle.pll.specs.Skip.{jump}
-use Rattle.std.proofs.Common.{rules}
 use Rattle.pll.proofs.skip.jump.Goals as goal
 
 pub returns : goal.returns

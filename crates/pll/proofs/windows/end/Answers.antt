@@ -1,7 +1,6 @@
 -- The two cases of the window are the definition's.
 use mathlib.Core.Path.{◌∙◌}
 use Rattle.pll.specs.Skip.{end}
-use Rattle.std.proofs.Common.{rules}
 use Rattle.pll.proofs.windows.end.Goals as goal
 
 pub returns-in-Absent : goal.returns-in-Absent

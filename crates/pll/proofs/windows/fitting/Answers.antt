@@ -1,7 +1,6 @@
 -- The test is the definition's.
 use mathlib.Core.Path.{sym}
 use Rattle.pll.proofs.Dividers.{fits, too_far}
-use Rattle.std.proofs.Common.{rules}
 use Rattle.pll.proofs.windows.fitting.Goals as goal
 
 pub returns-then-v-past : goal.returns-then-v-past

@@ -2,7 +2,6 @@
 use mathlib.Core.Path.{sym, ◌∙◌}
 use mathlib.Core.List.{[]}
 use Rattle.pll.proofs.Dividers.{highest_here, highest_next, highest_none}
-use Rattle.std.proofs.Common.{rules}
 use Rattle.pll.proofs.windows.highest_p.Goals as goal
 
 pub returns-then-l-v : goal.returns-then-l-v

@@ -1,8 +1,6 @@
 -- Above 15 times the low end the answer is 15, below it the quotient, where that is at least 2.
 use mathlib.Core.Path.{sym}
-use Rattle.pll.proofs.Dividers.{highest_here, highest_q_quotient, highest_q_none, highest_q_small}
-use Rattle.std.proofs.Common.{rules}
-use native.Mathlib.Omega.{arith}
+use Rattle.pll.proofs.Dividers.{highest_here, highest_q_quotient, highest_q_none}
 use Rattle.pll.proofs.windows.highest_q.Goals as goal
 
 pub returns-then-l-v : goal.returns-then-l-v

@@ -2,7 +2,6 @@
 use mathlib.Core.Path.{sym, ◌∙◌}
 use Rattle.pll.specs.Walk.{seek}
 use Rattle.pll.proofs.Dividers.{dividers_fall, first_fit}
-use Rattle.std.proofs.Common.{rules}
 use Rattle.pll.proofs.windows.seek.Goals as goal
 
 pub returns-in-Absent : goal.returns-in-Absent

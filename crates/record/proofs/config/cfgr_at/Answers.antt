@@ -1,6 +1,5 @@
 -- `cfgr_at` reads the configuration: group by group.
 use Rattle.record.specs.Config.{cfgr_of}
-use Rattle.std.proofs.Common.{rules}
 use Rattle.record.proofs.config.cfgr_at.Goals as goal
 
 pub returns : goal.returns

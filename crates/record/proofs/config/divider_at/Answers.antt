@@ -1,6 +1,5 @@
 -- `divider_at` reads a divider: by what the byte is.
 use Rattle.record.specs.Config.{divider_at}
-use Rattle.std.proofs.Common.{rules}
 use Rattle.record.proofs.config.divider_at.Goals as goal
 
 pub returns : goal.returns

@@ -1,6 +1,5 @@
 -- `factor_at` reads a factor: by what the u16 is.
 use Rattle.record.specs.Config.{factor_at}
-use Rattle.std.proofs.Common.{rules}
 use Rattle.record.proofs.config.factor_at.Goals as goal
 
 pub returns : goal.returns

@@ -1,6 +1,5 @@
 -- `hertz_at` reads a frequency: by what the u32 is.
 use Rattle.record.specs.Config.{hertz_at}
-use Rattle.std.proofs.Common.{rules}
 use Rattle.record.proofs.config.hertz_at.Goals as goal
 
 pub returns : goal.returns

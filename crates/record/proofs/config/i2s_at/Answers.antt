@@ -1,6 +1,5 @@
 -- `i2s_at` reads PLLI2S: by what each of its calls hands back.
 use Rattle.record.specs.Config.{i2s_of}
-use Rattle.std.proofs.Common.{rules}
 use Rattle.record.proofs.config.i2s_at.Goals as goal
 
 pub returns : goal.returns

@@ -1,6 +1,5 @@
 -- `mco_at` reads the MCO outputs: by what each of its calls hands back.
 use Rattle.record.specs.Config.{mco_of}
-use Rattle.std.proofs.Common.{rules}
 use Rattle.record.proofs.config.mco_at.Goals as goal
 
 pub returns : goal.returns

@@ -1,6 +1,5 @@
 -- `pll_at` reads the main PLL: by what each of its calls hands back.
 use Rattle.record.specs.Config.{pll_of}
-use Rattle.std.proofs.Common.{rules}
 use Rattle.record.proofs.config.pll_at.Goals as goal
 
 pub returns : goal.returns

@@ -1,6 +1,5 @@
 -- `request_at` reads a request: by cases of its flag.
 use Rattle.record.specs.Config.{request_at}
-use Rattle.std.proofs.Common.{rules}
 use Rattle.record.proofs.config.request_at.Goals as goal
 
 pub returns-then-flag : goal.returns-then-flag

@@ -1,6 +1,5 @@
 -- `requests_at` reads the requests: by what each of its calls hands back.
 use Rattle.record.specs.Config.{requests_of}
-use Rattle.std.proofs.Common.{rules}
 use Rattle.record.proofs.config.requests_at.Goals as goal
 
 pub returns : goal.returns

@@ -1,6 +1,5 @@
 -- `sai_at` reads PLLSAI: by what each of its calls hands back.
 use Rattle.record.specs.Config.{sai_of}
-use Rattle.std.proofs.Common.{rules}
 use Rattle.record.proofs.config.sai_at.Goals as goal
 
 pub returns : goal.returns

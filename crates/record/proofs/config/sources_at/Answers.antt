@@ -1,6 +1,5 @@
 -- `sources_at` reads the sources: by what each of its calls hands back.
 use Rattle.record.specs.Config.{sources_of}
-use Rattle.std.proofs.Common.{rules}
 use Rattle.record.proofs.config.sources_at.Goals as goal
 
 pub returns : goal.returns

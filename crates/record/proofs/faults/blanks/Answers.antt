@@ -1,9 +1,6 @@
 -- `blanks` looks at the rules of a run: what is found so far and the rest of the run give what the whole run gives.
-use Prim.Native.Nat.{◌≤◌, ◌-◌}
-use mathlib.Core.Path.{◌≡◌, refl, sym, ◌∙◌}
+use mathlib.Core.Path.{refl, sym, ◌∙◌}
 use native.Mathlib.Omega.{arith}
-use Rattle.std.proofs.Common.{rules}
-use Rattle.record.specs.Layout.{breach_from, blanks}
 use Rattle.record.proofs.Blanks.{begun, ended}
 use Rattle.record.proofs.faults.blanks.Goals as goal
 

@@ -1,6 +1,5 @@
 -- `child` looks at its rule: by what the two flags are.
 use Rattle.record.specs.Layout.{looked}
-use Rattle.std.proofs.Common.{rules}
 use Rattle.record.proofs.faults.child.Goals as goal
 
 pub returns : goal.returns

@@ -1,6 +1,5 @@
 -- `code` looks at its rule: by what the byte is.
 use Rattle.record.specs.Layout.{looked}
-use Rattle.std.proofs.Common.{rules}
 use Rattle.record.proofs.faults.code.Goals as goal
 
 pub returns : goal.returns

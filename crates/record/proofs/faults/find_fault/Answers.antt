@@ -1,6 +1,5 @@
 -- `find_fault` finds the first breach of the layout: its groups of rules, one after the other.
 use Rattle.record.specs.Layout.{breach_of}
-use Rattle.std.proofs.Common.{rules}
 use Rattle.record.proofs.faults.find_fault.Goals as goal
 
 pub returns : goal.returns

@@ -1,6 +1,5 @@
 -- `number` looks at its rule: by what the flag and the u32 are.
 use Rattle.record.specs.Layout.{looked}
-use Rattle.std.proofs.Common.{rules}
 use Rattle.record.proofs.faults.number.Goals as goal
 
 pub returns : goal.returns

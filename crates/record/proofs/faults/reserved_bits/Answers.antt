@@ -1,6 +1,5 @@
 -- `reserved_bits` looks at its rule: by what the flags are.
 use Rattle.record.specs.Layout.{looked}
-use Rattle.std.proofs.Common.{rules}
 use Rattle.record.proofs.faults.reserved_bits.Goals as goal
 
 pub returns : goal.returns

@@ -1,6 +1,5 @@
 -- `flag` says whether the bit is set: by what the u16 at byte 0 is.
 use Rattle.record.specs.Numbers.{flag_at}
-use Rattle.std.proofs.Common.{rules}
 use Rattle.record.proofs.numbers.flag.Goals as goal
 
 pub returns : goal.returns

@@ -1,6 +1,5 @@
 -- `u16_at` reads the little-endian u16: by what its two bytes are.
 use Rattle.record.specs.Numbers.{u16_at}
-use Rattle.std.proofs.Common.{rules}
 use Rattle.record.proofs.numbers.u16_at.Goals as goal
 
 pub returns : goal.returns

@@ -1,6 +1,5 @@
 -- `u32_at` reads the little-endian u32: by what its two halves are.
 use Rattle.record.specs.Numbers.{u32_at}
-use Rattle.std.proofs.Common.{rules}
 use Rattle.record.proofs.numbers.u32_at.Goals as goal
 
 pub returns : goal.returns

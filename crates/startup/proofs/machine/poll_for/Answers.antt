@@ -1,9 +1,7 @@
 -- `poll_for` meets its contract: the loop keeps what is left of the polls.
-use Prim.Native.Nat.{◌≤◌, ◌-◌}
-use mathlib.Core.Path.{◌≡◌, ◌∙◌, sym}
+use mathlib.Core.Path.{◌∙◌, sym}
 use native.Mathlib.Omega.{arith}
 use native.Mathlib.Numerals.{unary_clauses}
-use Rattle.startup.specs.Machine.{poll_of}
 use Rattle.startup.proofs.Polls.{hit, miss, past, over}
 use Rattle.startup.proofs.machine.poll_for.Goals as goal
 

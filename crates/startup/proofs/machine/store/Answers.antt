@@ -1,6 +1,5 @@
 -- `store` meets its contract: by whether the start goes on.
 use mathlib.Core.Path.{refl, sym, ◌∙◌}
-use Rattle.std.proofs.Common.{rules}
 use Rattle.startup.specs.Machine.{store_of, live}
 use Rattle.startup.proofs.Runs.{some_left}
 use Rattle.startup.proofs.machine.store.Goals as goal

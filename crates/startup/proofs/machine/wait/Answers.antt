@@ -2,7 +2,6 @@
 use Prim.Native.Nat.{◌≤◌, ◌+◌}
 use mathlib.Core.Path.{sym, ◌∙◌, ap}
 use native.Mathlib.Omega.{arith}
-use Rattle.std.proofs.Common.{rules}
 use Rattle.startup.specs.Machine.{wait_of, live, waited_of}
 use Rattle.startup.proofs.Polls.{few}
 use Rattle.startup.proofs.machine.wait.Goals as goal

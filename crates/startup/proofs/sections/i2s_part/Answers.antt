@@ -1,6 +1,5 @@
 -- `i2s_part` meets its contract: by whether PLLI2S is used.
 use Rattle.startup.proofs.Runs.{puts, quiet, quiet_none}
-use Rattle.std.proofs.Common.{rules}
 use Rattle.startup.proofs.sections.i2s_part.Goals as goal
 
 pub returns-then-i2s : goal.returns-then-i2s

@@ -1,6 +1,5 @@
 -- `pll_on` meets its contract: its stores and its wait, one after the other.
-use Rattle.startup.proofs.Runs.{none, stored, polled, puts, after_store}
-use Rattle.std.proofs.Common.{rules}
+use Rattle.startup.proofs.Runs.{none, stored, polled, puts}
 use Rattle.startup.proofs.sections.pll_on.Goals as goal
 
 pub returns : goal.returns

@@ -1,6 +1,5 @@
 -- `sai_part` meets its contract: by whether PLLSAI is used.
 use Rattle.startup.proofs.Runs.{puts, quiet, quiet_none}
-use Rattle.std.proofs.Common.{rules}
 use Rattle.startup.proofs.sections.sai_part.Goals as goal
 
 pub returns-then-sai : goal.returns-then-sai

@@ -1,6 +1,6 @@
 -- `put_decimal` meets its contract: one digit, a pair, or the number without its last two digits and then these.
 use native.Mathlib.Omega.{arith}
-use Rattle.std.proofs.Common.{◌≡◌, ap, sym, ◌∙◌, length}
+use Rattle.std.proofs.Common.{ap, sym, length}
 use Rattle.text.proofs.Digits.{one, two, last_two, last_two_count}
 use Rattle.text.proofs.Writing.{join, renamed, same}
 use Rattle.text.proofs.decimal.+put_decimal.Goals as goal

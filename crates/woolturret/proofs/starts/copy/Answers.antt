@@ -1,11 +1,9 @@
 -- `starts::copy` meets its contract: the elements before i are those of `from`.
-use Prim.Native.Nat.{◌-◌, ◌≤◌}
-use mathlib.Core.Path.{◌≡◌, refl}
+use mathlib.Core.Path.{refl}
 use native.Mathlib.Omega.{arith}
-use lib.ListN.{length, length-set}
-use lib.Seq.{paste, paste-zero}
+use lib.ListN.{length-set}
+use lib.Seq.{paste-zero}
 use Rattle.woolturret.proofs.Copying.{copied_all, one_more}
-use Rattle.std.proofs.Common.{rules}
 use Rattle.woolturret.proofs.starts.copy.Goals as goal
 
 pub loop-i-init : goal.loop-i-init

@@ -1,11 +1,8 @@
 -- `starts::copy` meets its contract: the elements before i are those of `from`.
 use Prim.Native.Nat.{◌-◌, ◌≤◌}
-use mathlib.Core.Path.{◌≡◌, refl}
-use native.Mathlib.Omega.{arith}
-use lib.ListN.{length, length-set}
-use lib.Seq.{paste, paste-zero}
-use Rattle.woolturret.proofs.Copying.{copied_all, one_more}
-use Rattle.std.proofs.Common.{rules}
+use mathlib.Core.Path.{◌≡◌}
+use lib.ListN.{length}
+use lib.Seq.{paste}
 use Rattle.woolturret.proofs.starts.copy.Given as goal
 
 abbrev pub invariant-loop-i : goal.invariant-loop-i

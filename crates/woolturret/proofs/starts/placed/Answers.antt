@@ -1,6 +1,5 @@
 -- `starts::placed` meets its contract: by the places of the file.
 use Rattle.woolturret.proofs.Starting.{placed_whole, placed_else}
-use Rattle.std.proofs.Common.{rules}
 use Rattle.woolturret.proofs.starts.placed.Goals as goal
 
 pub returns-then-file-eq-PLACES : goal.returns-then-file-eq-PLACES
