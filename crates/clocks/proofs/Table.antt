@@ -78,6 +78,11 @@ module _ (r : ℕ) where
   unfolding ppre_row
   ppre_16 g = rw (lt-leb r 1 (omega arith), lt-leb r 2 (omega arith), lt-leb r 6 (omega arith), lt-leb r 12 g)
 
+-- the arms of the code's two matches
+pub ruleset hpre_rows = (hpre_1, hpre_2, hpre_4, hpre_8, hpre_16, hpre_64, hpre_128, hpre_256, hpre_512)
+
+pub ruleset ppre_rows = (ppre_1, ppre_2, ppre_4, ppre_8, ppre_16)
+
 -- ---- every divider is a power of two: HPRE's up to 2 ^ 9, PPRE's up to 2 ^ 4
 pub record Power (k : ℕ) (x : Row) : Type 0 where
   pub exponent : ℕ

@@ -138,6 +138,7 @@ fn granted(sysclk: Hertz, requests: Requests, sources: Sources, valid: bool) -> 
 }
 
 // The clocks of a configuration that the check passes: 8 for a SYSCLK above 216 MHz.
+#[tactic(auto, using(crate::proofs::Deriving::settled_8, crate::proofs::Deriving::settled_at))]
 fn settled(cfgr: CFGR) -> Derived
     requires { Checked cfgr }
     ensures { result ≡ settled_of cfgr }

@@ -4,6 +4,7 @@ ghost use Rattle.clocks.specs.Derive.{wait_states_of, scale_of, overdrive_of};
 
 use kinds::Hertz;
 
+#[tactic(auto, unfolding(crate::specs::Derive::wait_states_of))]
 pub(crate) fn flash_waitstates(s: Hertz) -> u8
     ensures { result ≡ wait_states_of s.0 }
 {
@@ -26,6 +27,7 @@ pub(crate) fn flash_waitstates(s: Hertz) -> u8
     }
 }
 
+#[tactic(auto, unfolding(crate::specs::Derive::scale_of))]
 pub(crate) fn vos_scale(s: Hertz) -> u8
     ensures { result ≡ scale_of s.0 }
 {

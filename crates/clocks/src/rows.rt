@@ -6,6 +6,7 @@ ghost use Rattle.clocks.specs.Inner.{hpre_held, ppre_held};
 use super::{Hpre, Ppre};
 use kinds::Divider;
 
+#[tactic(auto, using(crate::proofs::Table::hpre_rows))]
 pub(crate) fn hpre_row(ratio: u32) -> Hpre
     ensures { result ≡ hpre_held (hpre_row ratio) }
 {
@@ -37,6 +38,7 @@ pub(crate) fn hpre_row(ratio: u32) -> Hpre
     }
 }
 
+#[tactic(auto, using(crate::proofs::Table::ppre_rows))]
 pub(crate) fn ppre_row(ratio: u32) -> Ppre
     ensures { result ≡ ppre_held (ppre_row ratio) }
 {

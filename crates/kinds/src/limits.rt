@@ -18,6 +18,7 @@ pub fn outside(lo: u32, hi: u32, k: u8, x: u32) -> u8
 }
 
 // The first of two numbers that is a refusal.
+#[tactic(auto, unfolding(crate::specs::Limits::first_refusal))]
 pub fn first_of(a: u8, b: u8) -> u8
     ensures { result ≡ spec.first_refusal a b }
 {

@@ -38,6 +38,7 @@ fn choice_of(clock: PLL48CLK) -> Choice48
 
 impl CFGR {
     // The Rust's `hse(HSEClock::new(freq, mode))`: 4 to 26 MHz with a crystal, 1 to 50 MHz by bypass, else 1.
+    #[tactic(auto, using(crate::proofs::Joins::hse_accepted, crate::proofs::Joins::hse_kept))]
     pub fn hse(mut self, freq: Hertz, mode: HSEClockMode) -> Setting
         ensures { result ≡ spec.set_hse self freq mode }
     {

@@ -43,6 +43,7 @@ fn judge(found: Found, bytes: &[u8]) -> Reading
 }
 
 // What any bytes say: values that no setter takes are read as they stand.
+#[tactic(auto, unfolding(crate::specs::Reading::read_of))]
 pub fn read_record(bytes: &[u8]) -> Reading
     ensures { result ≡ read_of bytes.now }
 {

@@ -80,6 +80,7 @@ fn run(
 }
 
 // How a start ended, by its machine.
+#[tactic(auto, unfolding(crate::specs::Machine::outcome_by))]
 fn ending(stop: u8, left: u8, clocks: Clocks, config: InternalRCCConfig) -> Outcome
     ensures { result ≡ outcome_by stop left clocks config }
 {

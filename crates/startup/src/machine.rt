@@ -38,6 +38,7 @@ pub(crate) fn begun(file: [u32; PLACES], cut: u8) -> Machine
 }
 
 // Whether the start goes on: neither cut nor ended by a wait.
+#[tactic(auto, unfolding(crate::specs::Machine::going))]
 fn goes_on(m: Machine) -> bool
     ensures { result ≡ going m }
 {

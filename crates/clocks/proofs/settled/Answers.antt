@@ -1,5 +1,5 @@
--- `settled` meets its contract: 8 above 216 MHz, else what SYSCLK grants.
-use Rattle.clocks.proofs.Deriving.{input_told, sysclk_within, settled_8, settled_at}
+-- What `settled` calls asks no more than what the check of the configuration tells, and SYSCLK's cap.
+use Rattle.clocks.proofs.Deriving.{input_told, sysclk_within}
 use Rattle.std.proofs.Common.{arith}
 use Rattle.clocks.proofs.settled.Goals as goal
 
@@ -14,12 +14,4 @@ pll48clk_valid-requires c =
 pub granted-requires : goal.granted-requires
 granted-requires c =
     let k = c.requires in
-    (sysclk_within _ k c.input_of-input.ensures c.sysclk-sysclk.ensures (omega (arith, c.if-sysclk-gt216000000.false)), k.requests)
-
-pub returns-then-sysclk-gt216000000 : goal.returns-then-sysclk-gt216000000
-returns-then-sysclk-gt216000000 c = settled_8 _ c.input_of-input.ensures c.sysclk-sysclk.ensures c.if-sysclk-gt216000000.true
-
-pub returns-else-sysclk-gt216000000 : goal.returns-else-sysclk-gt216000000
-returns-else-sysclk-gt216000000 c =
-    settled_at _ c.input_of-input.ensures c.sysclk-sysclk.ensures c.if-sysclk-gt216000000.false
-    c.pll48clk_valid.ensures c.granted.ensures
+    (sysclk_within _ k c.input_of-input.ensures c.sysclk-sysclk.ensures (omega arith), k.requests)
