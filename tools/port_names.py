@@ -18,7 +18,7 @@ APART = {
     'base-in': 'base_in_lem', 'default-line': 'default_line_lem', 'planned-answer': 'planned_answer_lem',
     'planned-line': 'planned_line_lem', 'search-in': 'search_in_lem', 'sysclk-by': 'sysclk_by_lem', 'vco-by': 'vco_by_lem',
     'wait-named': 'wait_named_lem', 'wanted-in': 'wanted_in_lem', 'plan-of': 'plan_of_lem', 'tail-of': 'tail_of_lem',
-    'plan-number': 'plan_number_lem', 'saiVco': 'sai_vco_of', 'i2sVco': 'i2s_vco_of', 'firstOf': 'first_refusal', 'lt_of_not-le': 'lt_of_not-le',
+    'callOf': 'call_setting', 'plan-number': 'plan_number_lem', 'saiVco': 'sai_vco_of', 'i2sVco': 'i2s_vco_of', 'firstOf': 'first_refusal', 'lt_of_not-le': 'lt_of_not-le',
 }
 
 
@@ -61,7 +61,8 @@ def specs_and_lemmas():
 
 
 def renamed(text, names):
-    return TOKEN.sub(lambda found: names.get(found.group(0), found.group(0)), text)
+    # a record that is well-formed is no name
+    return re.sub(r'^( *--.*)well_formed', r'\1well-formed', TOKEN.sub(lambda found: names.get(found.group(0), found.group(0)), text), flags=re.M)
 
 
 def code(text, names):
@@ -133,7 +134,10 @@ def apart(file, text):
     if file.endswith('.edit'):
         return text
     if file.endswith('.rt'):
-        return text.replace('spec.first_of ', 'spec.first_refusal ')
+        # `callOf`, the definition of `call`, beside the function `call_of`
+        text = text.replace('specs.Calls.{call_of}', 'specs.Calls.{call_setting}').replace('≡ call_of cfgr', '≡ call_setting cfgr')
+        return text.replace('spec.first_of ', 'spec.first_refusal ').replace('seekOf', 'seek_of')
+    text = re.sub(r"(?<![\w'.-])call_of(?![\w'.-])", 'call_setting', text)
     return re.sub(r"(?<![\w'.-])first_of(?![\w'.-])", new, text)
 
 

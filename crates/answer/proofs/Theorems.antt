@@ -70,7 +70,7 @@ pub refused_exactly : (bytes : List ℕ) (n : ℕ) → (n ≡ 0 → ⊥) → (an
 unfolding answer_line
 refused_exactly bytes n z = rw (← number_is bytes) (line_exactly (answer_of bytes) n z)
 
--- a well_formed record is answered with the line of its plan
+-- a well-formed record is answered with the line of its plan
 pub planned_line_lem : (bytes : List ℕ) → WellFormed bytes → answer_line bytes ≡ planned_line (plan_of (cfgr_of bytes))
 unfolding answer_line answer_of read_answer planned_line
 planned_line_lem bytes w = ap (λ (x : Reading). line_of_answer (read_answer x)) ((reads_exactly bytes).1 w)
@@ -84,7 +84,7 @@ plan_reads_back c passes x g = ok_line_reads_back (quantities_of c.pll x g)
 never_14 : (c : CFGR) → plan_number (plan_of c) ≡ 14 → ⊥
 never_14 c e = none_is 14 (0 ∷ plan_numbers) tt (plan_number (plan_of c)) (plan_gives_only c) e
 
--- the line is `no 14` exactly if the bytes are no well_formed record
+-- the line is `no 14` exactly if the bytes are no well-formed record
 pub says_14_exactly : (bytes : List ℕ) → (answer_line bytes ≡ no_line 14) ↔ (WellFormed bytes → ⊥)
 says_14_exactly bytes = (
   λ e w. never_14 (cfgr_of bytes) (sym (ap refusal_of ((reads_exactly bytes).1 w)) ∙ (refused_exactly bytes 14 (λ z. omega arith)).0 e),

@@ -55,7 +55,7 @@ unfolding answer_line line_of_answer
 number_reads_back bytes n = rw (ne_eqb (answer_of bytes).number 0 n) (no_line_reads_back (answer_of bytes).number)
 
 -- ---- what it says of the bytes
--- a well_formed record has the answer of its plan, any other bytes that of their fault
+-- a well-formed record has the answer of its plan, any other bytes that of their fault
 pub planned_answer_lem : (bytes : List ℕ) → WellFormed bytes → answer_of bytes ≡ planned_answer (plan_of (cfgr_of bytes))
 unfolding answer_of read_answer
 planned_answer_lem bytes w = ap read_answer ((reads_exactly bytes).1 w)

@@ -9,7 +9,7 @@ use borrow.Author.Tests.{eqb-true, eq-eqb}
 use Rattle.kinds.specs.Config.{defaults}
 use Rattle.kinds.specs.Limits.{outside_of, check_of}
 use Rattle.kinds.specs.Setters.{setting_of, hse_of, put_sources, put_requests, put_pll, put_sai, put_i2s, put_mco}
-use Rattle.calls.specs.Calls.{call_of}
+use Rattle.calls.specs.Calls.{call_setting}
 use Rattle.kinds.specs.Table.{Between, HseWithin, AskedWithin, RequestsWithin, PllWithin, SaiWithin, I2sWithin, Checked}
 use Rattle.calls.specs.Built.{Built, starts, calls}
 use Rattle.kinds.specs.declared.CFGR.{CFGR}
@@ -65,8 +65,8 @@ module _ {c : CFGR} (w : Checked c) where
   checked_mco : (x : Mco) → Checked (put_mco c x)
   checked_mco x = record { hse = w.hse; requests = w.requests; pll = w.pll; sai = w.sai; i2s = w.i2s }
 
-call_keeps : {c : CFGR} → Checked c → (s : Setter) → Checked (call_of c s).cfgr
-unfolding call_of
+call_keeps : {c : CFGR} → Checked c → (s : Setter) → Checked (call_setting c s).cfgr
+unfolding call_setting
 call_keeps w (Hse f mode) = keeps _ w (λ e. checked_sources w _ (hse_zero (hse_of f mode) e))
 call_keeps w (Hclk x) = keeps _ w (λ e. checked_requests w _ (record { hclk = outside_zero 0 216000000 2 x.0 (omega arith) e; sysclk = w.requests.sysclk; pclk1 = w.requests.pclk1; pclk2 = w.requests.pclk2 }))
 call_keeps w (Sysclk x) = keeps _ w (λ e. checked_requests w _ (record { hclk = w.requests.hclk; sysclk = outside_zero 12500000 216000000 3 x.0 (omega arith) e; pclk1 = w.requests.pclk1; pclk2 = w.requests.pclk2 }))
@@ -112,7 +112,7 @@ built_checked (calls b s) = call_keeps (built_checked b) s
 
 -- ---- a chain of calls reaches any that keeps the limits
 -- a setter whose number is 0 hands back the new configuration
-taken : (n : ℕ) {c d : CFGR} (s : Setter) → call_of c s ≡ setting_of n c d → n ≡ 0 → Built c → Built d
+taken : (n : ℕ) {c d : CFGR} (s : Setter) → call_setting c s ≡ setting_of n c d → n ≡ 0 → Built c → Built d
 unfolding setting_of
 taken n {c} {d} s e z b = subst (λ (x : CFGR). Built x) (ap (λ (x : Setting). x.cfgr) e ∙ new) (calls b s)
   where
@@ -120,18 +120,18 @@ taken n {c} {d} s e z b = subst (λ (x : CFGR). Built x) (ap (λ (x : Setting). 
     new = simp (eq-eqb _ _ z)
 
 -- a divider or a factor within its limit
-ranged : (lo hi x : ℕ) {c d : CFGR} (s : Setter) → call_of c s ≡ setting_of (outside_of lo hi 6 x) c d → Between lo hi x → Built c → Built d
+ranged : (lo hi x : ℕ) {c d : CFGR} (s : Setter) → call_setting c s ≡ setting_of (outside_of lo hi 6 x) c d → Between lo hi x → Built c → Built d
 ranged lo hi x s e w = taken (outside_of lo hi 6 x) s e (zero_outside lo hi 6 x w)
 
 -- a request within its limit, or none
 asked : (lo hi k : ℕ) (P : Request → CFGR) (s : Hertz → Setter)
-    → ((f : Hertz) → call_of (P NoRequest) (s f) ≡ setting_of (outside_of lo hi k f.0) (P NoRequest) (P (At f)))
+    → ((f : Hertz) → call_setting (P NoRequest) (s f) ≡ setting_of (outside_of lo hi k f.0) (P NoRequest) (P (At f)))
     → (q : Request) → AskedWithin lo hi q → Built (P NoRequest) → Built (P q)
 asked lo hi k P s e NoRequest w b = b
 asked lo hi k P s e (At f) w b = taken (outside_of lo hi k f.0) (s f) (e f) (zero_outside lo hi k f.0 w) b
 
 -- a flag
-flagged : (P : Bool → CFGR) (s : Setter) → (call_of (P false) s).cfgr ≡ P true → (t : Bool) → Built (P false) → Built (P t)
+flagged : (P : Bool → CFGR) (s : Setter) → (call_setting (P false) s).cfgr ≡ P true → (t : Bool) → Built (P false) → Built (P t)
 flagged P s e true b = subst (λ (x : CFGR). Built x) e (calls b s)
 flagged P s e false b = b
 
@@ -140,26 +140,26 @@ module _ (d : CFGR) where
   sources h l t = put_sources d (record { hse = h; lse = l; lsi = t })
 
   build_hse : (h : HSEClock) → HseWithin h → Built (sources NoHse NoLse false) → Built (sources h NoLse false)
-  unfolding call_of
+  unfolding call_setting
   build_hse NoHse w b = b
   build_hse (Oscillator f) w b = taken _ (Hse f ByCrystal) refl (zero_hse (Oscillator f) w) b
   build_hse (Bypass f) w b = taken _ (Hse f ByClock) refl (zero_hse (Bypass f) w) b
 
   build_lse : (h : HSEClock) (l : LSEClock) → Built (sources h NoLse false) → Built (sources h l false)
-  unfolding call_of
+  unfolding call_setting
   build_lse h NoLse b = b
   build_lse h LseOscillator b = calls b (Lse LseByCrystal)
   build_lse h LseBypass b = calls b (Lse LseByClock)
 
   build_sources : (x : Sources) → HseWithin x.hse → Built (put_sources d defaults.sources) → Built (put_sources d x)
-  unfolding call_of
+  unfolding call_setting
   build_sources x w b = flagged (sources x.hse x.lse) Lsi refl x.lsi (build_lse x.hse x.lse (build_hse x.hse w b))
 
   abbrev requests : Request → Request → Request → Request → CFGR
   requests h s a b = put_requests d (record { hclk = h; sysclk = s; pclk1 = a; pclk2 = b })
 
   build_requests : (q : Requests) → RequestsWithin q → Built (put_requests d defaults.requests) → Built (put_requests d q)
-  unfolding call_of
+  unfolding call_setting
   build_requests q w b =
       let b₁ = asked 0 216000000 2 (λ x. requests x NoRequest NoRequest NoRequest) Hclk (λ f. refl) q.hclk w.hclk b in
       let b₂ = asked 12500000 216000000 3 (λ x. requests q.hclk x NoRequest NoRequest) Sysclk (λ f. refl) q.sysclk w.sysclk b₁ in
@@ -170,13 +170,13 @@ module _ (d : CFGR) where
   pll t k = put_pll d (record { use_pll = t; pll48clk = k; m = defaults.pll.m; n = defaults.pll.n; p = defaults.pll.p; q = defaults.pll.q })
 
   build_choice : (t : Bool) (k : Choice48) → Built (pll t NoChoice) → Built (pll t k)
-  unfolding call_of
+  unfolding call_setting
   build_choice t NoChoice b = b
   build_choice t FromPllq b = calls b (UsePll48clk ByPllq)
   build_choice t FromPllsai b = calls b (UsePll48clk ByPllsai)
 
   build_pll : (p : Pll) → PllWithin p → Built (put_pll d defaults.pll) → Built (put_pll d p)
-  unfolding call_of
+  unfolding call_setting
   build_pll p w b =
       let b₁ = build_choice p.use_pll p.pll48clk (flagged (λ t. pll t NoChoice) UsePll refl p.use_pll b) in
       let b₂ = ranged 2 63 p.m.0 (Pllm p.m) refl w.m b₁ in
@@ -184,14 +184,14 @@ module _ (d : CFGR) where
       ranged 2 15 p.q.0 (Pllq p.q) refl w.q (calls b₃ (Pllp p.p))
 
   build_sai : (s : Sai) → SaiWithin s → Built (put_sai d defaults.sai) → Built (put_sai d s)
-  unfolding call_of
+  unfolding call_setting
   build_sai s w b =
       let b₁ = flagged (λ t. put_sai d (record { use_pllsai = t; n = defaults.sai.n; p = defaults.sai.p; q = defaults.sai.q })) UsePllsai refl s.use_pllsai b in
       let b₂ = ranged 50 432 s.n.0 (Pllsain s.n) refl w.n b₁ in
       ranged 2 15 s.q.0 (Pllsaiq s.q) refl w.q (calls b₂ (Pllsaip s.p))
 
   build_i2s : (i : I2s) → I2sWithin i → Built (put_i2s d defaults.i2s) → Built (put_i2s d i)
-  unfolding call_of
+  unfolding call_setting
   build_i2s i w b =
       let b₁ = flagged (λ t. put_i2s d (record { use_plli2s = t; n = defaults.i2s.n; r = defaults.i2s.r; q = defaults.i2s.q })) UsePlli2s refl i.use_plli2s b in
       let b₂ = ranged 50 432 i.n.0 (Plli2sn i.n) refl w.n b₁ in
@@ -199,7 +199,7 @@ module _ (d : CFGR) where
       ranged 2 15 i.q.0 (Plli2sq i.q) refl w.q b₃
 
   build_mco : (x : Mco) → Built (put_mco d defaults.mco) → Built (put_mco d x)
-  unfolding call_of
+  unfolding call_setting
   build_mco x b = calls (calls (calls (calls b (Mco1 x.mco1)) (Mco1pre x.mco1pre)) (Mco2 x.mco2)) (Mco2pre x.mco2pre)
 
 checked_built : (c : CFGR) → Checked c → Built c

@@ -3,7 +3,7 @@ use Prim.Native.Nat.{ℕ}
 use mathlib.Core.Path.{◌≡◌, refl}
 use borrow.Author.Tests.{ne_eqb}
 use Rattle.kinds.specs.Setters.{setting_of}
-use Rattle.calls.specs.Calls.{call_of}
+use Rattle.calls.specs.Calls.{call_setting}
 use Rattle.kinds.specs.declared.CFGR.{CFGR}
 use Rattle.calls.specs.declared.Setter.{Setter}
 use Rattle.calls.specs.declared.Setter.TheVariants.{Hse, Hclk, Sysclk, Pclk1, Pclk2, Lse, Lsi, UsePll, UsePll48clk, Pllm, Plln, Pllp, Pllq, UsePllsai, Pllsain, Pllsaip, Pllsaiq, UsePlli2s, Plli2sn, Plli2sq, Plli2sr, Mco1, Mco1pre, Mco2, Mco2pre, SetDefaults}
@@ -13,8 +13,8 @@ unfolding setting_of
 refused n c d h = simp (ne_eqb n 0 h)
 
 -- whatever the configuration and the call: a number that isn't 0 comes with the configuration as it came
-pub refused_keeps : (c : CFGR) (s : Setter) → ((call_of c s).refusal ≡ 0 → ⊥) → (call_of c s).cfgr ≡ c
-unfolding call_of
+pub refused_keeps : (c : CFGR) (s : Setter) → ((call_setting c s).refusal ≡ 0 → ⊥) → (call_setting c s).cfgr ≡ c
+unfolding call_setting
 refused_keeps c (Hse x y) h = refused _ _ _ h
 refused_keeps c (Hclk x) h = refused _ _ _ h
 refused_keeps c (Sysclk x) h = refused _ _ _ h

@@ -4,7 +4,7 @@
 mod named;
 
 ghost use Rattle.std.specs.Prelude.{◌≡◌};
-ghost use Rattle.calls.specs.Calls.{call_of};
+ghost use Rattle.calls.specs.Calls.{call_setting};
 
 use kinds::{
     CFGR, Divider, Factor, HSEClockMode, Hertz, LSEClockMode, MCO1, MCO2, MCOPRE, PLL48CLK, PLLP,
@@ -44,7 +44,7 @@ pub enum Setter {
 
 // The setter that the value names, called.
 pub fn call(cfgr: CFGR, setter: Setter) -> Setting
-    ensures { result ≡ call_of cfgr setter }
+    ensures { result ≡ call_setting cfgr setter }
 {
     match setter {
         Setter::Hse(x, y) => cfgr.hse(x, y),

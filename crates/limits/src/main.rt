@@ -6,7 +6,6 @@ ghost use Rattle.std.specs.Prelude.{◌≤◌};
 use calls::{Setter, call};
 use kinds::{CFGR, Divider, Factor, HSEClockMode, Hertz};
 use pll::{Found, Window};
-use std::io::Result;
 
 // The setter of a row of the list below.
 fn setter_of(which: u32, x: u32) -> Setter {
@@ -90,7 +89,7 @@ fn limit(which: u32, lo: u32, hi: u32, k: u32) -> u64
     wrong_below(which, lo, k) + wrong_above(which, hi, k)
 }
 
-fn main(rt: HostRuntime) -> Result<()> {
+fn main(rt: HostRuntime) {
     let hse = limit(0, 4000000, 26000000, 1) + limit(1, 1000000, 50000000, 1);
     let hclk = limit(2, 0, 216000000, 2);
     let sysclk = limit(3, 12500000, 216000000, 3);
@@ -100,5 +99,5 @@ fn main(rt: HostRuntime) -> Result<()> {
     let search = limit(14, 1000000, 50000000, 1);
     let plli2s = limit(11, 50, 432, 6) + limit(12, 2, 7, 6) + limit(13, 2, 15, 6);
     let wrong = hse + hclk + sysclk + pclk + pll + pllsai + plli2s + search;
-    println!(rt; "{wrong} of 74 tries at a limit's end went wrong")
+    let _ = println!(rt; "{wrong} of 74 tries at a limit's end went wrong");
 }

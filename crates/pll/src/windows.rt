@@ -1,7 +1,7 @@
 // Which divider puts a VCO into a window. `lo ≤ v / d` is tested as `lo × d ≤ v` and `v / d ≤ hi` as `v < (hi + 1) × d`.
 ghost use Rattle.std.specs.Prelude.{◌≡◌, ◌+◌, ◌*◌};
 ghost use Rattle.pll.specs.Walk.{p_dividers, q_dividers};
-ghost use Rattle.pll.specs.Walk.{seek as seekOf};
+ghost use Rattle.pll.specs.Walk.{seek as seek_of};
 ghost use Rattle.pll.specs.Skip.{dividers_of};
 ghost use Rattle.pll.specs.Skip as spec;
 
@@ -69,7 +69,7 @@ fn highest(s: Side, lo: Hertz, v: u64) -> u32
 
 // The divider that the window gets, if one fits.
 pub(crate) fn seek(s: Side, w: Window, v: u64) -> Seek
-    ensures { result ≡ seekOf (dividers_of s) w v }
+    ensures { result ≡ seek_of (dividers_of s) w v }
 {
     match w {
         Window::Absent => Seek::Had(Sought::Unasked),

@@ -1,4 +1,4 @@
--- What any bytes are read as: a well_formed record as its configuration, any other as malformed with the lowest breach; by the two ways that looking at the layout ends.
+-- What any bytes are read as: a well-formed record as its configuration, any other as malformed with the lowest breach; by the two ways that looking at the layout ends.
 use Prim.Native.Nat.{ℕ}
 use mathlib.Core.Path.{◌≡◌, refl, sym, ◌∙◌}
 use mathlib.Core.Bool.{Bool, true, false, cond, true≢false}
@@ -56,7 +56,7 @@ apart e =
     let z : ◌≡◌ {A = ℕ} 0 1 = cc in
     omega arith
 
--- a rule of the layout that is breached is one that a well_formed record keeps
+-- a rule of the layout that is breached is one that a well-formed record keeps
 not_well : (b : List ℕ) {fault : Fault} → Lowest b layout fault → WellFormed b → ⊥
 not_well b l w = true≢false (sym (kept_at b layout (layout_kept b w) l.listed) ∙ l.breached)
 
@@ -96,7 +96,7 @@ length_seen b (other_length n) = (λ e. n, λ n'. refl)
 length_seen b (lowest {fault} whole l) =
     (λ e. let p : fault ≡ Length = cc in absurd (not_length l.rule (l.named ∙ p)), λ n. absurd (n whole))
 
--- bytes are read as the configuration that they hold exactly if they are a well_formed record
+-- bytes are read as the configuration that they hold exactly if they are a well-formed record
 pub reads_exactly : (b : List ℕ) → (read_of b ≡ Config (cfgr_of b)) ↔ WellFormed b
 reads_exactly b = exactly b (read b)
 

@@ -1,4 +1,4 @@
--- A record of 64 bytes is well_formed exactly if it keeps every rule of the layout: rule by rule.
+-- A record of 64 bytes is well-formed exactly if it keeps every rule of the layout: rule by rule.
 use Prim.Native.Nat.{ℕ, zero, suc, ◌+◌, ◌<◌, ◌≤◌}
 use mathlib.Core.Path.{◌≡◌, refl, ap}
 use mathlib.Core.Bool.{Bool, true, false, not, ◌||◌, true≢false}
@@ -62,7 +62,7 @@ module _ (b : List ℕ) where
   parent_kept : (bit parent : ℕ) → (flag_at b bit ≡ true → flag_at b parent ≡ true) → keeps b (child bit parent) ≡ true
   parent_kept bit parent f = off_or _ _ (λ e. f (not-false _ e))
 
-  -- every rule of the layout kept: each fact of a well_formed record
+  -- every rule of the layout kept: each fact of a well-formed record
   pub well_formed : length b ≡ RECORD → Kept b layout → WellFormed b
   unfolding blanks
   well_formed whole (bits, (hse_by, (lse_by, (pllsai, (p, (sai_p, (m1, (p1, (m2, (p2, (b13, (hse, (hclk, (sysclk, (pclk1, (pclk2, tail)))))))))))))))) =
@@ -87,7 +87,7 @@ module _ (b : List ℕ) where
         choice_pllsai = has_parent _ _ pllsai;
       }
 
-  -- each fact of a well_formed record: every rule of the layout kept
+  -- each fact of a well-formed record: every rule of the layout kept
   pub layout_kept : WellFormed b → Kept b layout
   unfolding blanks
   layout_kept w =

@@ -1,4 +1,4 @@
--- Document 01, "Request record": a well_formed record in plain words, each rule a fact.
+-- Document 01, "Request record": a well-formed record in plain words, each rule a fact.
 use Rattle.std.specs.Prelude.{ℕ, ◌≤◌, ◌<◌, ◌≡◌, true, false, List, length, get_or}
 use Rattle.record.specs.Numbers.{u16_at, u32_at, flag_at}
 use Rattle.record.specs.Places.{hse_flag, hse_bypass_flag, hclk_flag, sysclk_flag, pclk1_flag, pclk2_flag, lse_flag, lse_bypass_flag, choice48_flag, choice_pllsai_flag}

@@ -3,7 +3,7 @@ use Prim.Native.Nat.{ℕ}
 use mathlib.Core.Path.{◌≡◌, refl, sym, ◌∙◌}
 use mathlib.Core.List.{List}
 use Rattle.kinds.specs.Limits.{check_of}
-use Rattle.calls.specs.Calls.{call_of}
+use Rattle.calls.specs.Calls.{call_setting}
 use Rattle.kinds.specs.declared.CFGR.{CFGR}
 use Rattle.kinds.specs.declared.Setting.{Setting}
 use Rattle.calls.specs.declared.Setter.{Setter}
@@ -34,7 +34,7 @@ checked e p = rw (e, p)
 pub unknown : (c : CFGR) {n : Named} (out : List ℕ) → n ≡ Unknown → Replied (call_reply c n out) 14 out
 unknown c out e = rw e (record { answer = refl; holds = refl })
 
-pub replied : (c : CFGR) {n : Named} {s : Setter} {t : Setting} {l : List ℕ} (out : List ℕ) → n ≡ Call s → t ≡ call_of c s → l ≡ config_numbers t.cfgr → Replied (call_reply c n out) t.refusal l
+pub replied : (c : CFGR) {n : Named} {s : Setter} {t : Setting} {l : List ℕ} (out : List ℕ) → n ≡ Call s → t ≡ call_setting c s → l ≡ config_numbers t.cfgr → Replied (call_reply c n out) t.refusal l
 replied c out e p q = rw (e, q, p) (record { answer = refl; holds = refl })
 
 pub malformed : {x : Reading} {f : Fault} (n : Named) (out : List ℕ) → x ≡ Malformed f → Replied (set_reply x n out) 14 out

@@ -1,7 +1,7 @@
 -- What an exported function answers, and what the lent numbers hold then.
 use Rattle.std.specs.Prelude.{ℕ, ◌≡◌, List}
 use Rattle.kinds.specs.Limits.{check_of}
-use Rattle.calls.specs.Calls.{call_of}
+use Rattle.calls.specs.Calls.{call_setting}
 use Rattle.kinds.specs.declared.CFGR.{CFGR}
 use Rattle.record.specs.Reading.{number_of}
 use Rattle.record.specs.declared.Reading.{Reading}
@@ -33,7 +33,7 @@ check_reply (Config c) = check_of c
 -- an unknown setter or code: 14, and the lent numbers as they came
 abbrev pub call_reply : CFGR → Named → List ℕ → Reply
 call_reply c Unknown out = record { number = 14; left = out }
-call_reply c (Call s) out = record { number = (call_of c s).refusal; left = config_numbers (call_of c s).cfgr }
+call_reply c (Call s) out = record { number = (call_setting c s).refusal; left = config_numbers (call_setting c s).cfgr }
 
 abbrev pub set_reply : Reading → Named → List ℕ → Reply
 set_reply (Malformed fault) call out = record { number = number_of fault; left = out }
