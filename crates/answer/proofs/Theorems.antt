@@ -8,26 +8,25 @@ use native.Mathlib.Omega.{arith}
 use lib.Dec.{eqb}
 use lib.ListN.{get_or}
 use borrow.Author.Tests.{eqb-true, eqb-false}
+use Rattle.std.specs.Prelude.{Result, Ok, Err}
 use Rattle.kinds.proofs.Turns.{none_is}
 use Rattle.kinds.specs.declared.CFGR.{CFGR}
 use Rattle.clocks.specs.declared.Clocks.{Clocks}
 use Rattle.clocks.specs.declared.InternalRCCConfig.{InternalRCCConfig}
-use Rattle.plan.specs.Plan.{plan_of, number_of as plan_number}
+use Rattle.configure.specs.declared.Unplanned.{Unplanned}
+use Rattle.plan.specs.Plan.{ready, plan_of, number_of as plan_number}
 use Rattle.plan.specs.Refusals.{plan_numbers}
 use Rattle.plan.specs.declared.Planned.{Planned}
-use Rattle.plan.specs.declared.Planned.TheVariants.{Refused, Ready}
 use Rattle.plan.proofs.Theorems.{plan_gives_only}
 use Rattle.record.specs.Config.{cfgr_of}
 use Rattle.record.specs.Reading.{read_of}
 use Rattle.record.specs.WellFormed.{WellFormed}
-use Rattle.record.specs.declared.Reading.{Reading}
-use Rattle.record.specs.declared.Reading.TheVariants.{Config, Malformed}
 use Rattle.record.proofs.Exactly.{reads_exactly, else_malformed, malformed_14}
 use Rattle.text.specs.Back.{numbers_in}
 use Rattle.text.specs.Line.{line_of, ok_line, no_line}
 use Rattle.text.proofs.Reading.{ok_line_reads_back, no_line_reads_back}
-use Rattle.answer.specs.Answer.{quantities_of, refused_answer, planned_answer, read_answer, answer_of, line_of_answer, planned_line, answer_line, refusal_of}
-use Rattle.answer.specs.declared.Answer.{Answer}
+use Rattle.answer.specs.Answer.{Answer, number_in, quantities_in, quantities_of, refused_answer, planned_answer, read_answer, answer_of, line_of_answer, planned_line, answer_line, refusal_of}
+use Rattle.record.specs.declared.Fault.{Fault}
 
 -- two refusals with one line have one number, and no plan has a refusal's line
 one_number : {m n : ℕ} → no_line m ≡ no_line n → m ≡ n
@@ -42,26 +41,26 @@ apart ns n e =
     omega arith
 
 -- the number decides which line it is
-line_exactly : (a : Answer) (n : ℕ) → (n ≡ 0 → ⊥) → (line_of_answer a ≡ no_line n) ↔ (a.number ≡ n)
+line_exactly : (a : Answer) (n : ℕ) → (n ≡ 0 → ⊥) → (line_of_answer a ≡ no_line n) ↔ (number_in a ≡ n)
 unfolding line_of_answer
-line_exactly a n z = by (eqb a.number 0) refl
+line_exactly a n z = by (eqb (number_in a) 0) refl
   where
-    by : (t : Bool) → eqb a.number 0 ≡ t → (cond t (ok_line a.quantities) (no_line a.number) ≡ no_line n) ↔ (a.number ≡ n)
-    by true e = (λ g. absurd (apart _ n g), λ g. absurd (z (sym g ∙ eqb-true a.number 0 e)))
+    by : (t : Bool) → eqb (number_in a) 0 ≡ t → (cond t (ok_line (quantities_in a)) (no_line (number_in a)) ≡ no_line n) ↔ (number_in a ≡ n)
+    by true e = (λ g. absurd (apart _ n g), λ g. absurd (z (sym g ∙ eqb-true (number_in a) 0 e)))
     by false e = (λ g. one_number g, λ g. ap no_line g)
 
-planned_number : (y : Planned) → (planned_answer y).number ≡ plan_number y
+planned_number : (y : Result Planned Unplanned) → number_in (planned_answer y) ≡ plan_number y
 unfolding planned_answer refused_answer
-planned_number (Refused number passes) = refl
-planned_number (Ready c passes x g) = refl
+planned_number (Err u) = refl
+planned_number (Ok p) = refl
 
-read_number : (x : Reading) → (read_answer x).number ≡ refusal_of x
+read_number : (x : Result CFGR Fault) → number_in (read_answer x) ≡ refusal_of x
 unfolding read_answer refused_answer
-read_number (Malformed fault) = refl
-read_number (Config c) = planned_number (plan_of c)
+read_number (Err fault) = sym (malformed_14 fault)
+read_number (Ok c) = planned_number (plan_of c)
 
 -- the value's number is the refusal's
-pub number_is : (bytes : List ℕ) → (answer_of bytes).number ≡ refusal_of (read_of bytes)
+pub number_is : (bytes : List ℕ) → number_in (answer_of bytes) ≡ refusal_of (read_of bytes)
 unfolding answer_of
 number_is bytes = read_number (read_of bytes)
 
@@ -73,10 +72,10 @@ refused_exactly bytes n z = rw (← number_is bytes) (line_exactly (answer_of by
 -- a well-formed record is answered with the line of its plan
 pub planned_line_lem : (bytes : List ℕ) → WellFormed bytes → answer_line bytes ≡ planned_line (plan_of (cfgr_of bytes))
 unfolding answer_line answer_of read_answer planned_line
-planned_line_lem bytes w = ap (λ (x : Reading). line_of_answer (read_answer x)) ((reads_exactly bytes).1 w)
+planned_line_lem bytes w = ap (λ (x : Result CFGR Fault). line_of_answer (read_answer x)) ((reads_exactly bytes).1 w)
 
 -- and the line of a plan tells its fourteen quantities
-pub plan_reads_back : (c : CFGR) (passes : ℕ) (x : Clocks) (g : InternalRCCConfig) → numbers_in (planned_line (Ready c passes x g)) ≡ quantities_of c.pll x g
+pub plan_reads_back : (c : CFGR) (passes : ℕ) (x : Clocks) (g : InternalRCCConfig) → numbers_in (planned_line (ready c passes x g)) ≡ quantities_of c.pll x g
 unfolding planned_line planned_answer line_of_answer
 plan_reads_back c passes x g = ok_line_reads_back (quantities_of c.pll x g)
 
@@ -94,8 +93,8 @@ says_14_exactly bytes = (
 -- no line is `no 0`
 pub never_no_0 : (bytes : List ℕ) → answer_line bytes ≡ no_line 0 → ⊥
 unfolding answer_line line_of_answer
-never_no_0 bytes e = by (answer_of bytes) (eqb (answer_of bytes).number 0) refl e
+never_no_0 bytes e = by (answer_of bytes) (eqb (number_in (answer_of bytes)) 0) refl e
   where
-    by : (a : Answer) (t : Bool) → eqb a.number 0 ≡ t → cond t (ok_line a.quantities) (no_line a.number) ≡ no_line 0 → ⊥
+    by : (a : Answer) (t : Bool) → eqb (number_in a) 0 ≡ t → cond t (ok_line (quantities_in a)) (no_line (number_in a)) ≡ no_line 0 → ⊥
     by a true h g = apart _ 0 g
-    by a false h g = eqb-false a.number 0 h (one_number g)
+    by a false h g = eqb-false (number_in a) 0 h (one_number g)

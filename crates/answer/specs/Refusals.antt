@@ -1,14 +1,12 @@
 -- Document 01's table of refusals for what bytes are read as: 14, and what the plan is refused with; of several, the first in turn is answered (`First`).
-use Rattle.std.specs.Prelude.{ℕ, ◌≡◌, List, ◌∷◌}
+use Rattle.std.specs.Prelude.{ℕ, ◌≡◌, List, ◌∷◌, Result, Ok, Err}
 use Rattle.kinds.specs.declared.CFGR.{CFGR}
 use Rattle.plan.specs.Refusals.{PlanRefused, plan_numbers}
 use Rattle.record.specs.declared.Fault.{Fault}
-use Rattle.record.specs.declared.Reading.{Reading}
-use Rattle.record.specs.declared.Reading.TheVariants.{Config, Malformed}
 
-pub data AnswerRefused (z : Reading) : ℕ → Type 0 where
-  malformed : {fault : Fault} → z ≡ Malformed fault → AnswerRefused z 14
-  planned : {c : CFGR} {n : ℕ} → z ≡ Config c → PlanRefused c n → AnswerRefused z n
+pub data AnswerRefused (z : Result CFGR Fault) : ℕ → Type 0 where
+  malformed : {fault : Fault} → z ≡ Err fault → AnswerRefused z 14
+  planned : {c : CFGR} {n : ℕ} → z ≡ Ok c → PlanRefused c n → AnswerRefused z n
 
 -- the numbers that an answer can have
 abbrev pub answer_numbers : List ℕ

@@ -1,4 +1,5 @@
 -- The setters build exactly the configurations that the check passes: no call breaks a limit, and a chain of calls, group by group, reaches any that keeps them.
+use Rattle.std.specs.Prelude.{None, Option, Some, Ok, Err}
 use Prim.Native.Nat.{ℕ, ◌≤◌}
 use mathlib.Core.Path.{◌≡◌, refl, ap, subst, ◌∙◌}
 use mathlib.Core.Logic.{◌↔◌}
@@ -8,12 +9,12 @@ use native.Mathlib.Omega.{arith}
 use borrow.Author.Tests.{eqb-true, eq-eqb}
 use Rattle.kinds.specs.Config.{defaults}
 use Rattle.kinds.specs.Limits.{outside_of, check_of}
-use Rattle.kinds.specs.Setters.{setting_of, hse_of, put_sources, put_requests, put_pll, put_sai, put_i2s, put_mco}
+use Rattle.kinds.specs.Refusals.{refusal_of}
+use Rattle.kinds.specs.Setters.{Setting, handed, setting_of, hse_of, put_sources, put_requests, put_pll, put_sai, put_i2s, put_mco}
 use Rattle.calls.specs.Calls.{call_setting}
 use Rattle.kinds.specs.Table.{Between, HseWithin, AskedWithin, RequestsWithin, PllWithin, SaiWithin, I2sWithin, Checked}
 use Rattle.calls.specs.Built.{Built, starts, calls}
 use Rattle.kinds.specs.declared.CFGR.{CFGR}
-use Rattle.kinds.specs.declared.Setting.{Setting}
 use Rattle.calls.specs.declared.Setter.{Setter}
 use Rattle.calls.specs.declared.Setter.TheVariants.{Hse, Hclk, Sysclk, Pclk1, Pclk2, Lse, Lsi, UsePll, UsePll48clk, Pllm, Plln, Pllp, Pllq, UsePllsai, Pllsain, Pllsaip, Pllsaiq, UsePlli2s, Plli2sn, Plli2sq, Plli2sr, Mco1, Mco1pre, Mco2, Mco2pre, SetDefaults}
 use Rattle.kinds.specs.declared.Hertz.{Hertz}
@@ -24,25 +25,23 @@ use Rattle.kinds.specs.declared.Sai.{Sai}
 use Rattle.kinds.specs.declared.I2s.{I2s}
 use Rattle.kinds.specs.declared.Mco.{Mco}
 use Rattle.kinds.specs.declared.HSEClock.{HSEClock}
-use Rattle.kinds.specs.declared.HSEClock.TheVariants.{Absent as NoHse, Oscillator, Bypass}
+use Rattle.kinds.specs.declared.HSEClock.TheVariants.{Oscillator, Bypass}
 use Rattle.kinds.specs.declared.HSEClockMode.TheVariants.{Oscillator as ByCrystal, Bypass as ByClock}
-use Rattle.kinds.specs.declared.LSEClock.{LSEClock}
-use Rattle.kinds.specs.declared.LSEClock.TheVariants.{Absent as NoLse, Oscillator as LseOscillator, Bypass as LseBypass}
+use Rattle.kinds.specs.declared.LSEClockMode.{LSEClockMode}
+use Rattle.kinds.specs.declared.LSEClockMode.TheVariants.{Oscillator as LseOscillator, Bypass as LseBypass}
 use Rattle.kinds.specs.declared.LSEClockMode.TheVariants.{Oscillator as LseByCrystal, Bypass as LseByClock}
 use Rattle.kinds.specs.declared.PLL48CLK.TheVariants.{Pllq as ByPllq, Pllsai as ByPllsai}
-use Rattle.kinds.specs.declared.Choice48.{Choice48}
-use Rattle.kinds.specs.declared.Choice48.TheVariants.{Absent as NoChoice, Pllq as FromPllq, Pllsai as FromPllsai}
-use Rattle.kinds.specs.declared.Request.{Request}
-use Rattle.kinds.specs.declared.Request.TheVariants.{Absent as NoRequest, At}
+use Rattle.kinds.specs.declared.PLL48CLK.{PLL48CLK}
+use Rattle.kinds.specs.declared.PLL48CLK.TheVariants.{Pllq as FromPllq, Pllsai as FromPllsai}
 use Rattle.kinds.proofs.Check.{outside_zero, zero_outside, hse_zero, zero_hse, check_told, told_check}
 
 -- ---- no call breaks a limit
 -- a setter that may refuse: what it hands back keeps the limits, if the new configuration does wherever the number is 0
-keeps : (n : ℕ) {c d : CFGR} → Checked c → (n ≡ 0 → Checked d) → Checked (setting_of n c d).cfgr
+keeps : (n : ℕ) {c d : CFGR} → Checked c → (n ≡ 0 → Checked d) → Checked (handed (setting_of n c d))
 unfolding setting_of
 keeps n {c} {d} w h = at (eqb n 0) refl
   where
-    at : (t : Bool) → eqb n 0 ≡ t → Checked (cond t d c)
+    at : (t : Bool) → eqb n 0 ≡ t → Checked (handed (cond t (Ok d) (Err (record { refusal = refusal_of n; cfgr = c }))))
     at true e = h (eqb-true n 0 e)
     at false e = w
 
@@ -65,9 +64,9 @@ module _ {c : CFGR} (w : Checked c) where
   checked_mco : (x : Mco) → Checked (put_mco c x)
   checked_mco x = record { hse = w.hse; requests = w.requests; pll = w.pll; sai = w.sai; i2s = w.i2s }
 
-call_keeps : {c : CFGR} → Checked c → (s : Setter) → Checked (call_setting c s).cfgr
+call_keeps : {c : CFGR} → Checked c → (s : Setter) → Checked (handed (call_setting c s))
 unfolding call_setting
-call_keeps w (Hse f mode) = keeps _ w (λ e. checked_sources w _ (hse_zero (hse_of f mode) e))
+call_keeps w (Hse f mode) = keeps _ w (λ e. checked_sources w _ (hse_zero (Some (hse_of f mode)) e))
 call_keeps w (Hclk x) = keeps _ w (λ e. checked_requests w _ (record { hclk = outside_zero 0 216000000 2 x.0 (omega arith) e; sysclk = w.requests.sysclk; pclk1 = w.requests.pclk1; pclk2 = w.requests.pclk2 }))
 call_keeps w (Sysclk x) = keeps _ w (λ e. checked_requests w _ (record { hclk = w.requests.hclk; sysclk = outside_zero 12500000 216000000 3 x.0 (omega arith) e; pclk1 = w.requests.pclk1; pclk2 = w.requests.pclk2 }))
 call_keeps w (Pclk1 x) = keeps _ w (λ e. checked_requests w _ (record { hclk = w.requests.hclk; sysclk = w.requests.sysclk; pclk1 = outside_zero 12500000 54000000 4 x.0 (omega arith) e; pclk2 = w.requests.pclk2 }))
@@ -114,9 +113,9 @@ built_checked (calls b s) = call_keeps (built_checked b) s
 -- a setter whose number is 0 hands back the new configuration
 taken : (n : ℕ) {c d : CFGR} (s : Setter) → call_setting c s ≡ setting_of n c d → n ≡ 0 → Built c → Built d
 unfolding setting_of
-taken n {c} {d} s e z b = subst (λ (x : CFGR). Built x) (ap (λ (x : Setting). x.cfgr) e ∙ new) (calls b s)
+taken n {c} {d} s e z b = subst (λ (x : CFGR). Built x) (ap (λ (x : Setting). handed x) e ∙ new) (calls b s)
   where
-    new : (setting_of n c d).cfgr ≡ d
+    new : handed (setting_of n c d) ≡ d
     new = simp (eq-eqb _ _ z)
 
 -- a divider or a factor within its limit
@@ -124,61 +123,61 @@ ranged : (lo hi x : ℕ) {c d : CFGR} (s : Setter) → call_setting c s ≡ sett
 ranged lo hi x s e w = taken (outside_of lo hi 6 x) s e (zero_outside lo hi 6 x w)
 
 -- a request within its limit, or none
-asked : (lo hi k : ℕ) (P : Request → CFGR) (s : Hertz → Setter)
-    → ((f : Hertz) → call_setting (P NoRequest) (s f) ≡ setting_of (outside_of lo hi k f.0) (P NoRequest) (P (At f)))
-    → (q : Request) → AskedWithin lo hi q → Built (P NoRequest) → Built (P q)
-asked lo hi k P s e NoRequest w b = b
-asked lo hi k P s e (At f) w b = taken (outside_of lo hi k f.0) (s f) (e f) (zero_outside lo hi k f.0 w) b
+asked : (lo hi k : ℕ) (P : Option Hertz → CFGR) (s : Hertz → Setter)
+    → ((f : Hertz) → call_setting (P None) (s f) ≡ setting_of (outside_of lo hi k f.0) (P None) (P (Some f)))
+    → (q : Option Hertz) → AskedWithin lo hi q → Built (P None) → Built (P q)
+asked lo hi k P s e None w b = b
+asked lo hi k P s e (Some f) w b = taken (outside_of lo hi k f.0) (s f) (e f) (zero_outside lo hi k f.0 w) b
 
 -- a flag
-flagged : (P : Bool → CFGR) (s : Setter) → (call_setting (P false) s).cfgr ≡ P true → (t : Bool) → Built (P false) → Built (P t)
+flagged : (P : Bool → CFGR) (s : Setter) → handed (call_setting (P false) s) ≡ P true → (t : Bool) → Built (P false) → Built (P t)
 flagged P s e true b = subst (λ (x : CFGR). Built x) e (calls b s)
 flagged P s e false b = b
 
 module _ (d : CFGR) where
-  abbrev sources : HSEClock → LSEClock → Bool → CFGR
+  abbrev sources : Option HSEClock → Option LSEClockMode → Bool → CFGR
   sources h l t = put_sources d (record { hse = h; lse = l; lsi = t })
 
-  build_hse : (h : HSEClock) → HseWithin h → Built (sources NoHse NoLse false) → Built (sources h NoLse false)
+  build_hse : (h : Option HSEClock) → HseWithin h → Built (sources None None false) → Built (sources h None false)
   unfolding call_setting
-  build_hse NoHse w b = b
-  build_hse (Oscillator f) w b = taken _ (Hse f ByCrystal) refl (zero_hse (Oscillator f) w) b
-  build_hse (Bypass f) w b = taken _ (Hse f ByClock) refl (zero_hse (Bypass f) w) b
+  build_hse None w b = b
+  build_hse (Some (Oscillator f)) w b = taken _ (Hse f ByCrystal) refl (zero_hse (Some (Oscillator f)) w) b
+  build_hse (Some (Bypass f)) w b = taken _ (Hse f ByClock) refl (zero_hse (Some (Bypass f)) w) b
 
-  build_lse : (h : HSEClock) (l : LSEClock) → Built (sources h NoLse false) → Built (sources h l false)
+  build_lse : (h : Option HSEClock) (l : Option LSEClockMode) → Built (sources h None false) → Built (sources h l false)
   unfolding call_setting
-  build_lse h NoLse b = b
-  build_lse h LseOscillator b = calls b (Lse LseByCrystal)
-  build_lse h LseBypass b = calls b (Lse LseByClock)
+  build_lse h None b = b
+  build_lse h (Some LseOscillator) b = calls b (Lse LseByCrystal)
+  build_lse h (Some LseBypass) b = calls b (Lse LseByClock)
 
   build_sources : (x : Sources) → HseWithin x.hse → Built (put_sources d defaults.sources) → Built (put_sources d x)
   unfolding call_setting
   build_sources x w b = flagged (sources x.hse x.lse) Lsi refl x.lsi (build_lse x.hse x.lse (build_hse x.hse w b))
 
-  abbrev requests : Request → Request → Request → Request → CFGR
+  abbrev requests : Option Hertz → Option Hertz → Option Hertz → Option Hertz → CFGR
   requests h s a b = put_requests d (record { hclk = h; sysclk = s; pclk1 = a; pclk2 = b })
 
   build_requests : (q : Requests) → RequestsWithin q → Built (put_requests d defaults.requests) → Built (put_requests d q)
   unfolding call_setting
   build_requests q w b =
-      let b₁ = asked 0 216000000 2 (λ x. requests x NoRequest NoRequest NoRequest) Hclk (λ f. refl) q.hclk w.hclk b in
-      let b₂ = asked 12500000 216000000 3 (λ x. requests q.hclk x NoRequest NoRequest) Sysclk (λ f. refl) q.sysclk w.sysclk b₁ in
-      let b₃ = asked 12500000 54000000 4 (λ x. requests q.hclk q.sysclk x NoRequest) Pclk1 (λ f. refl) q.pclk1 w.pclk1 b₂ in
+      let b₁ = asked 0 216000000 2 (λ x. requests x None None None) Hclk (λ f. refl) q.hclk w.hclk b in
+      let b₂ = asked 12500000 216000000 3 (λ x. requests q.hclk x None None) Sysclk (λ f. refl) q.sysclk w.sysclk b₁ in
+      let b₃ = asked 12500000 54000000 4 (λ x. requests q.hclk q.sysclk x None) Pclk1 (λ f. refl) q.pclk1 w.pclk1 b₂ in
       asked 12500000 108000000 5 (λ x. requests q.hclk q.sysclk q.pclk1 x) Pclk2 (λ f. refl) q.pclk2 w.pclk2 b₃
 
-  abbrev pll : Bool → Choice48 → CFGR
+  abbrev pll : Bool → Option PLL48CLK → CFGR
   pll t k = put_pll d (record { use_pll = t; pll48clk = k; m = defaults.pll.m; n = defaults.pll.n; p = defaults.pll.p; q = defaults.pll.q })
 
-  build_choice : (t : Bool) (k : Choice48) → Built (pll t NoChoice) → Built (pll t k)
+  build_choice : (t : Bool) (k : Option PLL48CLK) → Built (pll t None) → Built (pll t k)
   unfolding call_setting
-  build_choice t NoChoice b = b
-  build_choice t FromPllq b = calls b (UsePll48clk ByPllq)
-  build_choice t FromPllsai b = calls b (UsePll48clk ByPllsai)
+  build_choice t None b = b
+  build_choice t (Some FromPllq) b = calls b (UsePll48clk ByPllq)
+  build_choice t (Some FromPllsai) b = calls b (UsePll48clk ByPllsai)
 
   build_pll : (p : Pll) → PllWithin p → Built (put_pll d defaults.pll) → Built (put_pll d p)
   unfolding call_setting
   build_pll p w b =
-      let b₁ = build_choice p.use_pll p.pll48clk (flagged (λ t. pll t NoChoice) UsePll refl p.use_pll b) in
+      let b₁ = build_choice p.use_pll p.pll48clk (flagged (λ t. pll t None) UsePll refl p.use_pll b) in
       let b₂ = ranged 2 63 p.m.0 (Pllm p.m) refl w.m b₁ in
       let b₃ = ranged 50 432 p.n.0 (Plln p.n) refl w.n b₂ in
       ranged 2 15 p.q.0 (Pllq p.q) refl w.q (calls b₃ (Pllp p.p))

@@ -1,31 +1,25 @@
--- A match on a number picks the element of a list at that number, or the default past its end: one law for every list of calls.
-use Prim.Native.Nat.{ℕ, zero, suc, ◌≤◌}
-use mathlib.Core.Path.{◌≡◌, sym}
+-- Past the end of a list of calls there is none: for the number of no setter, and for a code that an enum doesn't have.
+use Prim.Native.Nat.{ℕ, ◌≤◌}
+use mathlib.Core.Path.{◌≡◌, sym, ◌∙◌}
 use mathlib.Core.List.{List}
 use lib.ListN.{length, get_or, get_or-eq_default}
-use native.Mathlib.Omega.{arith}
+use Rattle.std.specs.Prelude.{Option, None, Result, ◌≢◌}
+use Rattle.std.specs.Result.{result_ok}
+use Rattle.kinds.proofs.Decoding.{unread}
+use Rattle.kinds.specs.Codes.{Decodes}
+use Rattle.kinds.specs.declared.codes.UnknownCode.{UnknownCode}
 use Rattle.calls.specs.Named.{nth}
-use Rattle.calls.specs.declared.named.Named.{Named}
-use Rattle.calls.specs.declared.named.Named.TheVariants.{Unknown}
+use Rattle.calls.specs.declared.Setter.{Setter}
 
--- the arm of number k
-pub picked : (l : List Named) {i k : ℕ} {r : Named} → i ≡ k → r ≡ get_or l k Unknown → r ≡ nth l i
+pub past : (l : List (Option Setter)) (n : ℕ) → length l ≤ n → None ≡ nth l n
 unfolding nth
-picked l e q = rw e q
+past l n h = sym (get_or-eq_default l None h)
 
--- what the last arm knows: x is none of 0 to n - 1
-abbrev pub Missed : ℕ → ℕ → Type 0
-Missed zero x = Unit {0}
-Missed (suc k) x = Missed k x × (x ≡ k → ⊥)
-
-missed_le : (n x : ℕ) → Missed n x → n ≤ x
-missed_le zero x h = omega arith
-missed_le (suc k) x h = let a = missed_le k x h.0 in least h.1 a
-  where
-    least : (x ≡ k → ⊥) → k ≤ x → suc k ≤ x
-    least ne le = omega arith
-
--- the last arm
-pub unpicked : (l : List Named) (x : ℕ) → Missed (length l) x → Unknown ≡ nth l x
+-- setter k, whose argument is read as no value: it names no call where its list has one for each code
+pub unread_past : (l : List (Option Setter)) {i k n : ℕ} {T : Type 0} (code : T → ℕ) (t : Result T UnknownCode)
+    {o : Option T} {r : Option Setter} → i ≡ k → r ≡ None → o ≡ None → o ≡ result_ok t → Decodes code n t
+    → (m : List (Option Setter)) → get_or l k None ≡ nth m n → (((x : T) → code x ≢ n) → length m ≤ n) → r ≡ nth l i
 unfolding nth
-unpicked l x h = sym (get_or-eq_default l Unknown (missed_le (length l) x h))
+unread_past l {n = n} code t number gone nothing is_read decoded m arm over =
+    let none : None ≡ nth m n = past m n (over (unread code t decoded (sym is_read ∙ nothing))) in
+    rw number (gone ∙ none ∙ sym arm)

@@ -1,19 +1,30 @@
 -- A setter that refuses hands back the configuration it came with, whichever setter: each that may refuse by one law, and the others never do.
 use Prim.Native.Nat.{ℕ}
 use mathlib.Core.Path.{◌≡◌, refl}
-use borrow.Author.Tests.{ne_eqb}
-use Rattle.kinds.specs.Setters.{setting_of}
+use mathlib.Core.Bool.{Bool, true, false, cond}
+use lib.Dec.{eqb}
+use Rattle.std.specs.Prelude.{Ok, Err}
+use Rattle.kinds.specs.Refusals.{refusal_of}
+use Rattle.kinds.specs.Setters.{Setting, handed, setting_number, setting_of}
 use Rattle.calls.specs.Calls.{call_setting}
 use Rattle.kinds.specs.declared.CFGR.{CFGR}
 use Rattle.calls.specs.declared.Setter.{Setter}
 use Rattle.calls.specs.declared.Setter.TheVariants.{Hse, Hclk, Sysclk, Pclk1, Pclk2, Lse, Lsi, UsePll, UsePll48clk, Pllm, Plln, Pllp, Pllq, UsePllsai, Pllsain, Pllsaip, Pllsaiq, UsePlli2s, Plli2sn, Plli2sq, Plli2sr, Mco1, Mco1pre, Mco2, Mco2pre, SetDefaults}
 
-refused : (n : ℕ) (c d : CFGR) → ((setting_of n c d).refusal ≡ 0 → ⊥) → (setting_of n c d).cfgr ≡ c
+-- a setter's answer, by whether its number is 0
+abbrev answer : ℕ → CFGR → CFGR → Bool → Setting
+answer n c d t = cond t (Ok d) (Err (record { refusal = refusal_of n; cfgr = c }))
+
+refused : (n : ℕ) (c d : CFGR) → (setting_number (setting_of n c d) ≡ 0 → ⊥) → handed (setting_of n c d) ≡ c
 unfolding setting_of
-refused n c d h = simp (ne_eqb n 0 h)
+refused n c d h = at (eqb n 0) h
+  where
+    at : (t : Bool) → (setting_number (answer n c d t) ≡ 0 → ⊥) → handed (answer n c d t) ≡ c
+    at true h = absurd (h refl)
+    at false h = refl
 
 -- whatever the configuration and the call: a number that isn't 0 comes with the configuration as it came
-pub refused_keeps : (c : CFGR) (s : Setter) → ((call_setting c s).refusal ≡ 0 → ⊥) → (call_setting c s).cfgr ≡ c
+pub refused_keeps : (c : CFGR) (s : Setter) → (setting_number (call_setting c s) ≡ 0 → ⊥) → handed (call_setting c s) ≡ c
 unfolding call_setting
 refused_keeps c (Hse x y) h = refused _ _ _ h
 refused_keeps c (Hclk x) h = refused _ _ _ h

@@ -1,7 +1,6 @@
 -- A setter call as a value: what it hands back.
-use Rattle.kinds.specs.Setters.{set_hse, set_hclk, set_sysclk, set_pclk1, set_pclk2, set_lse, set_lsi, set_use_pll, set_pll48clk, set_pllm, set_plln, set_pllp, set_pllq, set_use_pllsai, set_pllsain, set_pllsaip, set_pllsaiq, set_use_plli2s, set_plli2sn, set_plli2sq, set_plli2sr, set_mco1, set_mco1pre, set_mco2, set_mco2pre, set_defaults}
+use Rattle.kinds.specs.Setters.{Setting, set_hse, set_hclk, set_sysclk, set_pclk1, set_pclk2, set_lse, set_lsi, set_use_pll, set_pll48clk, set_pllm, set_plln, set_pllp, set_pllq, set_use_pllsai, set_pllsain, set_pllsaip, set_pllsaiq, set_use_plli2s, set_plli2sn, set_plli2sq, set_plli2sr, set_mco1, set_mco1pre, set_mco2, set_mco2pre, set_defaults}
 use Rattle.kinds.specs.declared.CFGR.{CFGR}
-use Rattle.kinds.specs.declared.Setting.{Setting}
 use Rattle.calls.specs.declared.Setter.{Setter}
 use Rattle.calls.specs.declared.Setter.TheVariants.{Hse, Hclk, Sysclk, Pclk1, Pclk2, Lse, Lsi, UsePll, UsePll48clk, Pllm, Plln, Pllp, Pllq, UsePllsai, Pllsain, Pllsaip, Pllsaiq, UsePlli2s, Plli2sn, Plli2sq, Plli2sr, Mco1, Mco1pre, Mco2, Mco2pre, SetDefaults}
 

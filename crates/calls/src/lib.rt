@@ -8,11 +8,11 @@ ghost use Rattle.calls.specs.Calls.{call_setting};
 
 use kinds::{
     CFGR, Divider, Factor, HSEClockMode, Hertz, LSEClockMode, MCO1, MCO2, MCOPRE, PLL48CLK, PLLP,
-    Setting,
+    Unset,
 };
-pub use named::{Named, call_of};
+pub use named::call_of;
 
-#[derive(Clone, Copy)]
+#[derive(Clone, Copy, PartialEq, Eq)]
 pub enum Setter {
     Hse(Hertz, HSEClockMode),
     Hclk(Hertz),
@@ -43,7 +43,8 @@ pub enum Setter {
 }
 
 // The setter that the value names, called.
-pub fn call(cfgr: CFGR, setter: Setter) -> Setting
+#[tactic(auto, unfolding(crate::specs::Calls::call_setting))]
+pub fn call(cfgr: CFGR, setter: Setter) -> Result<CFGR, Unset>
     ensures { result ≡ call_setting cfgr setter }
 {
     match setter {
@@ -52,26 +53,26 @@ pub fn call(cfgr: CFGR, setter: Setter) -> Setting
         Setter::Sysclk(x) => cfgr.sysclk(x),
         Setter::Pclk1(x) => cfgr.pclk1(x),
         Setter::Pclk2(x) => cfgr.pclk2(x),
-        Setter::Lse(x) => cfgr.lse(x),
-        Setter::Lsi => cfgr.lsi(),
-        Setter::UsePll => cfgr.use_pll(),
-        Setter::UsePll48clk(x) => cfgr.use_pll48clk(x),
+        Setter::Lse(x) => Ok(cfgr.lse(x)),
+        Setter::Lsi => Ok(cfgr.lsi()),
+        Setter::UsePll => Ok(cfgr.use_pll()),
+        Setter::UsePll48clk(x) => Ok(cfgr.use_pll48clk(x)),
         Setter::Pllm(x) => cfgr.pllm(x),
         Setter::Plln(x) => cfgr.plln(x),
-        Setter::Pllp(x) => cfgr.pllp(x),
+        Setter::Pllp(x) => Ok(cfgr.pllp(x)),
         Setter::Pllq(x) => cfgr.pllq(x),
-        Setter::UsePllsai => cfgr.use_pllsai(),
+        Setter::UsePllsai => Ok(cfgr.use_pllsai()),
         Setter::Pllsain(x) => cfgr.pllsain(x),
-        Setter::Pllsaip(x) => cfgr.pllsaip(x),
+        Setter::Pllsaip(x) => Ok(cfgr.pllsaip(x)),
         Setter::Pllsaiq(x) => cfgr.pllsaiq(x),
-        Setter::UsePlli2s => cfgr.use_plli2s(),
+        Setter::UsePlli2s => Ok(cfgr.use_plli2s()),
         Setter::Plli2sn(x) => cfgr.plli2sn(x),
         Setter::Plli2sq(x) => cfgr.plli2sq(x),
         Setter::Plli2sr(x) => cfgr.plli2sr(x),
-        Setter::Mco1(x) => cfgr.mco1(x),
-        Setter::Mco1pre(x) => cfgr.mco1pre(x),
-        Setter::Mco2(x) => cfgr.mco2(x),
-        Setter::Mco2pre(x) => cfgr.mco2pre(x),
+        Setter::Mco1(x) => Ok(cfgr.mco1(x)),
+        Setter::Mco1pre(x) => Ok(cfgr.mco1pre(x)),
+        Setter::Mco2(x) => Ok(cfgr.mco2(x)),
+        Setter::Mco2pre(x) => Ok(cfgr.mco2pre(x)),
         Setter::SetDefaults => cfgr.set_defaults(),
     }
 }

@@ -1,11 +1,11 @@
 -- A PCLK is above 0 and within its cap, whatever HPRE divides SYSCLK by: by the few ratios next above 1 and 2, since the ratio grows.
+use Rattle.std.specs.Prelude.{None, Option, Some}
 use Rattle.std.proofs.Common.{◌≡◌, ℕ, zero, suc, ◌+◌, ◌*◌, ◌/◌, ◌%◌, ◌^◌, ◌<◌, ◌≤◌, Bool, true, false, cond, leb, ◌⊎◌, refl, inl, inr, le_trans, le_of_eq, mul-le-mul_right, le-div_iff_mul-le, div-le_self, arith, lit≤, pow_mono, le-leb, leb-true}
 use lib.Ieee.{size}
 use native.Mathlib.Nat.{div-le_of_le-mul}
 use borrow.Author.Tests.{lt-leb}
 use Rattle.kinds.specs.Table.{Between, AskedWithin}
-use Rattle.kinds.specs.declared.Request.{Request}
-use Rattle.kinds.specs.declared.Request.TheVariants.{Absent as NoRequest, At as Asked}
+use Rattle.kinds.specs.declared.Hertz.{Hertz}
 use Rattle.clocks.specs.Ratio.{round24, ratio_up}
 use Rattle.clocks.specs.Rows.{Row, row, ppre_row}
 use Rattle.clocks.specs.Derive.{wanted_of, cap_of, apb_for}
@@ -65,12 +65,12 @@ unfolding ratio_up round24 size
 cap_108 = record { eights = refl; low = lit≤ tt; high = lit≤ tt; quarter = lit≤ tt; two = lit≤ tt; four = inl (lit≤ tt) }
 
 -- what is wanted is at most the cap
-wanted_le : (most own : ℕ) (q : Request) → wanted_of most own q ≤ most
+wanted_le : (most own : ℕ) (q : Option Hertz) → wanted_of most own q ≤ most
 unfolding wanted_of
-wanted_le most own NoRequest = omega arith
-wanted_le most own (Asked f) = omega arith
+wanted_le most own None = omega arith
+wanted_le most own (Some f) = omega arith
 
-module _ (cap most h : ℕ) (q : Request) (z : Cap cap most) (k : Hclk cap h q) where
+module _ (cap most h : ℕ) (q : Option Hertz) (z : Cap cap most) (k : Hclk cap h q) where
   -- HCLK over the cap is at most HCLK over what is wanted
   ratio_from : (n : ℕ) → 0 < n → n ≤ h → ratio_up n cap ≤ ratio_up h (wanted_of cap h q)
   ratio_from n N l =
@@ -101,7 +101,7 @@ module _ (cap most h : ℕ) (q : Request) (z : Cap cap most) (k : Hclk cap h q) 
       at (inr a) (inr b) (inr f) = by 4 (ppre_four _ (four_up b f)) (omega (arith, z.quarter))
 
 -- ---- any divider that is a power of two leaves an HCLK that is a multiple of 8, or one that no cap is below
-module _ (s cap most : ℕ) (q : Request) (z : Cap cap most) (e : s % 16 ≡ 0) (l : s ≤ most) where
+module _ (s cap most : ℕ) (q : Option Hertz) (z : Cap cap most) (e : s % 16 ≡ 0) (l : s ≤ most) where
   divided_capped : (j : ℕ) → Hclk cap (s / 2 ^ j) q → (apb_for cap (s / 2 ^ j) q).pclk.0 ≤ cap
   divided_capped zero k = capped cap most (s / 1) q z k (omega arith) (omega arith)
   divided_capped (suc zero) k = capped cap most (s / 2) q z k (omega arith) (omega arith)
@@ -110,12 +110,12 @@ module _ (s cap most : ℕ) (q : Request) (z : Cap cap most) (e : s % 16 ≡ 0) 
       capped_low cap most (s / 2 ^ suc (suc j)) q z k (div-le_of_le-mul (2 ^ suc (suc j)) (le_trans l (le_trans z.quarter (mul-le-mul_right cap d))))
 
 -- ---- a PCLK is above 0: what is below its want is not divided, and what is above it is large
-large : (most h : ℕ) (q : Request) → 12500000 ≤ most → AskedWithin 12500000 216000000 q → wanted_of most h q < h → 12500000 ≤ h
+large : (most h : ℕ) (q : Option Hertz) → 12500000 ≤ most → AskedWithin 12500000 216000000 q → wanted_of most h q < h → 12500000 ≤ h
 unfolding wanted_of
-large most h NoRequest m a g = omega arith
-large most h (Asked f) m a g = omega (arith, a.low)
+large most h None m a g = omega arith
+large most h (Some f) m a g = omega (arith, a.low)
 
-pclk_pos : (most h : ℕ) (q : Request) → 12500000 ≤ most → Hclk most h q → 0 < (apb_for most h q).pclk.0
+pclk_pos : (most h : ℕ) (q : Option Hertz) → 12500000 ≤ most → Hclk most h q → 0 < (apb_for most h q).pclk.0
 unfolding apb_for
 pclk_pos most h q m k = at (split_le h (wanted_of most h q))
   where
@@ -147,7 +147,7 @@ caps2 = record { lower = cap_90; upper = cap_108 }
 range : {cap most : ℕ} → Cap cap most → Between 1 216000000 cap
 range z = record { low = omega (arith, z.low); high = omega (arith, z.high) }
 
-by_cap : (s lo hi : ℕ) (x : Row) (q : Request) → Caps lo hi → Sysclk s → Power 9 x → Hclk (cap_of s lo hi) (s / x.divider) q → Between 1 (cap_of s lo hi) (apb_for (cap_of s lo hi) (s / x.divider) q).pclk.0
+by_cap : (s lo hi : ℕ) (x : Row) (q : Option Hertz) → Caps lo hi → Sysclk s → Power 9 x → Hclk (cap_of s lo hi) (s / x.divider) q → Between 1 (cap_of s lo hi) (apb_for (cap_of s lo hi) (s / x.divider) q).pclk.0
 unfolding cap_of
 by_cap s lo hi x q z y p = rw p.is (at (leb s 180000000) refl)
   where
@@ -156,5 +156,5 @@ by_cap s lo hi x q z y p = rw p.is (at (leb s 180000000) refl)
     at false e k = record { low = pclk_pos hi _ q z.upper.low k; high = divided_capped s hi 216000000 q z.upper y.sixteen y.high p.exponent k }
 
 -- whichever row HPRE has, PCLK is above 0 and within its cap
-pub pclk_within : (s lo hi : ℕ) (x : Row) (q : Request) → Caps lo hi → Sysclk s → Power 9 x → AskedWithin 12500000 hi q → Between 1 (cap_of s lo hi) (apb_for (cap_of s lo hi) (s / x.divider) q).pclk.0
+pub pclk_within : (s lo hi : ℕ) (x : Row) (q : Option Hertz) → Caps lo hi → Sysclk s → Power 9 x → AskedWithin 12500000 hi q → Between 1 (cap_of s lo hi) (apb_for (cap_of s lo hi) (s / x.divider) q).pclk.0
 pclk_within s lo hi x q z y p k = by_cap s lo hi x q z y p (hclk_facts s lo hi _ q y (row_range s x y p) refl (range z.lower) (range z.upper) k)

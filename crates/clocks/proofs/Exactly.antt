@@ -4,7 +4,7 @@ use lib.Ieee.{Float, fin, binary32, div, lt, of_int, in_float, to_unsigned}
 use lib.Ieee.Digits.{back}
 use lib.Ieee.Exact.{HasValue, round_exact}
 use lib.Ieee.Back.{unsigned_back}
-use Rattle.clocks.specs.Inner.{whole_of}
+use Rattle.clocks.specs.Inner.{whole_of, PowerOfTwo, Sysclk}
 use Rattle.clocks.proofs.Quotient.{whole_exact, div_at, lt_of_values, above_minus_one, whole_is}
 
 sixteens : (c : ℕ) → c % 16 ≡ 0 → c ≡ c / 16 * 2 ^ 4
@@ -47,17 +47,36 @@ module _ (c j : ℕ) (x y : Float) (C : 0 < c) (C' : c < 2 ^ 28) (S : c % 16 ≡
       room : (j : ℕ) → 24 + (153 - j) ≤ 277
       room j = omega arith
 
-  pub under : c < 2 ^ 64 * 2 ^ j
-  under = lt_of_lt_of_le C' (le_trans (lit≤ tt) (mul-le-mul_left (2 ^ 64) (pow_pos j)))
+  below : c < 2 ^ 64 * 2 ^ j
+  below = lt_of_lt_of_le C' (le_trans (lit≤ tt) (mul-le-mul_left (2 ^ 64) (pow_pos j)))
 
-  pub part_above : T (lt (fin true 1 (pos 0)) (div binary32 x y))
+  part_above : T (lt (fin true 1 (pos 0)) (div binary32 x y))
   part_above = above_minus_one (div binary32 x y) c (2 ^ j) quotient_exact
 
-  pub part_under : T (lt (div binary32 x y) (fin false 1 (pos 64)))
-  part_under = lt_of_values (div binary32 x y) (fin false 1 (pos 64)) c (2 ^ j) (2 ^ 64) 1 quotient_exact (refl, refl) (lt_of_le_of_lt (le_of_eq (mul-one c)) under)
+  part_under : T (lt (div binary32 x y) (fin false 1 (pos 64)))
+  part_under = lt_of_values (div binary32 x y) (fin false 1 (pos 64)) c (2 ^ j) (2 ^ 64) 1 quotient_exact (refl, refl) (lt_of_le_of_lt (le_of_eq (mul-one c)) below)
 
-  pub part_is : to_unsigned 64 (div binary32 x y) ≡ c / 2 ^ j
-  part_is = whole_is (div binary32 x y) c (2 ^ j) 64 (pow_pos j) quotient_exact under
+  part_is : to_unsigned 64 (div binary32 x y) ≡ c / 2 ^ j
+  part_is = whole_is (div binary32 x y) c (2 ^ j) 64 (pow_pos j) quotient_exact below
 
-  pub part_small : to_unsigned 64 (div binary32 x y) ≤ c
+  part_small : to_unsigned 64 (div binary32 x y) ≤ c
   part_small = le_trans (le_of_eq part_is) (div-le_self c (2 ^ j))
+
+-- all that `divided` needs of its quotient q, for SYSCLK c and the divider y
+pub record Parts (c : ℕ) (y q : Float) : Type 0 where
+  pub above : T (lt (fin true 1 (pos 0)) q)
+  pub under : T (lt q (fin false 1 (pos 64)))
+  pub whole : to_unsigned 64 q ≡ c / whole_of y
+  pub small : to_unsigned 64 q ≤ c
+
+pub parts : {c : ℕ} {x y : Float} → Sysclk c → PowerOfTwo y → x ≡ of_int binary32 (pos c) → Parts c y (div binary32 x y)
+parts {c = c} {x = x} {y = y} k p ex =
+    let C : 0 < c = omega (arith, k.low) in
+    let C' : c < 2 ^ 28 = omega (arith, k.high) in
+    let j = p.exponent in
+    record {
+      above = part_above c j x y C C' k.sixteen p.small ex p.is;
+      under = part_under c j x y C C' k.sixteen p.small ex p.is;
+      whole = part_is c j x y C C' k.sixteen p.small ex p.is ∙ ap (λ (d : ℕ). c / d) (sym (whole_of_power j y p.small p.is));
+      small = part_small c j x y C C' k.sixteen p.small ex p.is;
+    }

@@ -11,7 +11,7 @@ use lib.Ieee.Fits.{of_int-fits}
 use lib.Ieee.Positive.{num, den, den_pos, value→cross}
 use Rattle.clocks.specs.Ratio.{extra, digits24, round24, quotient24, up, ratio_up}
 use Rattle.clocks.proofs.Rounded.{split_le, digits24_le, near_below, past_none, round24_at, round24_pos, round24_lt, up_more, up_same}
-use Rattle.clocks.proofs.Quotient.{U, U_pos, round24_exact, quotient_value, of_int_is}
+use Rattle.clocks.proofs.Quotient.{Facts, facts, U, U_pos, round24_exact, quotient_value, of_int_is}
 
 -- ---- equal fractions
 pub digits24_same : (n d n' d' : ℕ) → 0 < d → 0 < d' → n * d' ≡ n' * d → digits24 n d ≡ digits24 n' d'
@@ -69,6 +69,9 @@ rounded_first_is_ieee x h = whole_unique binary32 (of_int binary32 (pos (round24
 -- ---- the quotient of two integers, each converted to an f32
 pub quotient : (n d : ℕ) → 0 < n → n < 2 ^ 28 → 0 < d → d < 2 ^ 28 → HasValue (div binary32 (of_int binary32 (pos n)) (of_int binary32 (pos d))) false (quotient24 (round24 n) (round24 d)) (2 ^ 149)
 quotient n d N N' D D' = quotient_value (round24 n) (round24 d) (of_int binary32 (pos n)) (of_int binary32 (pos d)) (round24_pos n N) (round24_lt n N') (round24_pos d D) (round24_value n N') (round24_value d D')
+
+pub quotient_facts : (n d : ℕ) {x y : Float} → 0 < n → n < 2 ^ 28 → 0 < d → d < 2 ^ 28 → x ≡ of_int binary32 (pos n) → y ≡ of_int binary32 (pos d) → Facts n d (div binary32 x y)
+quotient_facts n d N N' D D' ex ey = rw (ex, ey) (facts n d _ N' (quotient n d N N' D D'))
 
 -- ---- a fraction taken up to a whole number depends on its value alone
 module _ (a b c d : ℕ) (B : 0 < b) (D : 0 < d) (e : a * d ≡ c * b) where

@@ -11,7 +11,7 @@ use lib.Ieee.Positive.{num, den, positive, den_pos, positive_of_value, value→c
 use lib.Ieee.Scale.{round_same, round_val}
 use lib.Ieee.Back.{round_whole}
 use Rattle.clocks.specs.Ratio.{extra, round24, quotient24, ratio_up}
-use Rattle.clocks.proofs.Rounded.{split_le, kept_le, extra_le, digits24_le, round24_pos, round24_lt, up_more, up_same}
+use Rattle.clocks.proofs.Rounded.{split_le, kept_le, extra_le, digits24_le, round24_lt, up_more, up_same}
 
 -- ---- a whole number q * 2 ^ k with q up to 2 ^ 24 is an f32
 pub of_int_is : (n : ℕ) → of_int binary32 (pos n) ≡ round binary32 false n 1
@@ -156,50 +156,40 @@ whole_is (fin false m e) g c w C p h =
     let d : m * up e / down e ≡ g / c = div_same (m * up e) (down e) g c (down_pos e) C p.1 in
     ap (λ (z : ℕ). min z (2 ^ w - 1)) d ∙ capped (g / c) (2 ^ w) ((div-lt_iff_lt-mul C).1 h)
 
--- ---- What `ratio_up` computes with: a and b are the two numbers rounded, x and y their f32, t the quotient's whole part and z its f32
-module _ (n d a b : ℕ) (x y : Float) (N : 0 < n) (N' : n < 2 ^ 28) (D : 0 < d) (D' : d < 2 ^ 28) (ea : a ≡ round24 n) (eb : b ≡ round24 d)
-    (ex : x ≡ of_int binary32 (pos a)) (ey : y ≡ of_int binary32 (pos b)) where
-  q_value : HasValue (div binary32 x y) false (quotient24 (round24 n) (round24 d)) U
-  q_value =
-      quotient_value (round24 n) (round24 d) x y (round24_pos n N) (round24_lt n N') (round24_pos d D)
-      (subst (λ (f : Float). HasValue f false (round24 n) 1) (sym (ex ∙ ap (λ (w : ℕ). of_int binary32 (pos w)) ea)) (round24_exact n N'))
-      (subst (λ (f : Float). HasValue f false (round24 d) 1) (sym (ey ∙ ap (λ (w : ℕ). of_int binary32 (pos w)) eb)) (round24_exact d D'))
-
+-- ---- What `ratio_up` computes with: q is the quotient, t its whole part and z that as an f32
+module _ (n d : ℕ) (q : Float) (N : n < 2 ^ 28) (v : HasValue q false (quotient24 (round24 n) (round24 d)) U) where
   q_le : quotient24 (round24 n) (round24 d) < 2 ^ 64 * U
-  q_le = lt_of_le_of_lt (quotient_le (round24 n) (round24 d) (round24_lt n N')) (lit< tt)
+  q_le = lt_of_le_of_lt (quotient_le (round24 n) (round24 d) (round24_lt n N)) (lit< tt)
 
-  q_above : T (lt (fin true 1 (pos 0)) (div binary32 x y))
-  q_above = above_minus_one (div binary32 x y) (quotient24 (round24 n) (round24 d)) U q_value
+  q_under : T (lt q (fin false 1 (pos 64)))
+  q_under = lt_of_values q (fin false 1 (pos 64)) (quotient24 (round24 n) (round24 d)) U (2 ^ 64) 1 v (refl, refl) (lt_of_le_of_lt (le_of_eq (mul-one (quotient24 (round24 n) (round24 d)))) q_le)
 
-  q_under : T (lt (div binary32 x y) (fin false 1 (pos 64)))
-  q_under = lt_of_values (div binary32 x y) (fin false 1 (pos 64)) (quotient24 (round24 n) (round24 d)) U (2 ^ 64) 1 q_value (refl, refl) (lt_of_le_of_lt (le_of_eq (mul-one (quotient24 (round24 n) (round24 d)))) q_le)
+  q_whole : to_unsigned 64 q ≡ quotient24 (round24 n) (round24 d) / U
+  q_whole = whole_is q (quotient24 (round24 n) (round24 d)) U 64 U_pos v q_le
 
-  q_whole : to_unsigned 64 (div binary32 x y) ≡ quotient24 (round24 n) (round24 d) / U
-  q_whole = whole_is (div binary32 x y) (quotient24 (round24 n) (round24 d)) U 64 U_pos q_value q_le
-
-  q_small : to_unsigned 64 (div binary32 x y) ≤ 536870912
+  q_small : to_unsigned 64 q ≤ 536870912
   q_small = subst (λ (w : ℕ). w ≤ 536870912) (sym q_whole)
-      (div_mono (quotient24 (round24 n) (round24 d)) U 536870912 1 U_pos (lit< tt) (le_trans (le_of_eq (mul-one (quotient24 (round24 n) (round24 d)))) (quotient_le (round24 n) (round24 d) (round24_lt n N'))))
+      (div_mono (quotient24 (round24 n) (round24 d)) U 536870912 1 U_pos (lit< tt) (le_trans (le_of_eq (mul-one (quotient24 (round24 n) (round24 d)))) (quotient_le (round24 n) (round24 d) (round24_lt n N))))
 
-  module _ (t : ℕ) (z : Float) (et : t ≡ to_unsigned 64 (div binary32 x y)) (ez : z ≡ of_int binary32 (pos t)) where
+  module _ (t : ℕ) (z : Float) (et : t ≡ to_unsigned 64 q) (ez : z ≡ of_int binary32 (pos t)) where
     t_is : t ≡ quotient24 (round24 n) (round24 d) / U
     t_is = et ∙ q_whole
 
     z_value : HasValue z false (quotient24 (round24 n) (round24 d) / U) 1
-    z_value = subst (λ (f : Float). HasValue f false (quotient24 (round24 n) (round24 d) / U) 1) (sym (ez ∙ ap (λ (w : ℕ). of_int binary32 (pos w)) t_is)) (whole_part (round24 n) (round24 d) (round24_lt n N'))
+    z_value = subst (λ (f : Float). HasValue f false (quotient24 (round24 n) (round24 d) / U) 1) (sym (ez ∙ ap (λ (w : ℕ). of_int binary32 (pos w)) t_is)) (whole_part (round24 n) (round24 d) (round24_lt n N))
 
-    one_more : lt z (div binary32 x y) ≡ true → t + 1 ≡ ratio_up n d
+    one_more : lt z q ≡ true → t + 1 ≡ ratio_up n d
     unfolding ratio_up
     one_more e =
         let g = quotient24 (round24 n) (round24 d) in
-        let l : g / U * U < g * 1 = values_of_lt z (div binary32 x y) (g / U) 1 g U (lit< tt) U_pos z_value q_value (subst T (sym e) tt) in
+        let l : g / U * U < g * 1 = values_of_lt z q (g / U) 1 g U (lit< tt) U_pos z_value v (subst T (sym e) tt) in
         ap (λ (w : ℕ). w + 1) t_is ∙ up_more g U U_pos (lt_of_lt_of_le l (le_of_eq (mul-one g)))
 
-    no_more : lt z (div binary32 x y) ≡ false → t ≡ ratio_up n d
+    no_more : lt z q ≡ false → t ≡ ratio_up n d
     unfolding ratio_up
     no_more e =
         let g = quotient24 (round24 n) (round24 d) in
-        let l : g * 1 ≤ g / U * U = values_of_not_lt z (div binary32 x y) (g / U) 1 g U z_value q_value (subst (λ (w : Bool). T (not w)) (sym e) tt) in
+        let l : g * 1 ≤ g / U * U = values_of_not_lt z q (g / U) 1 g U z_value v (subst (λ (w : Bool). T (not w)) (sym e) tt) in
         t_is ∙ up_same g U U_pos (le_trans (le_of_eq (sym (mul-one g))) l)
 
 -- all that `ratio_up` needs of its quotient q, for the numbers n and d
@@ -210,11 +200,11 @@ pub record Facts (n d : ℕ) (q : Float) : Type 0 where
   pub more : (t : ℕ) (z : Float) → t ≡ to_unsigned 64 q → z ≡ of_int binary32 (pos t) → lt z q ≡ true → t + 1 ≡ ratio_up n d
   pub same : (t : ℕ) (z : Float) → t ≡ to_unsigned 64 q → z ≡ of_int binary32 (pos t) → lt z q ≡ false → t ≡ ratio_up n d
 
-pub facts : (n d a b : ℕ) (x y : Float) → 0 < n → n < 2 ^ 28 → 0 < d → d < 2 ^ 28 → a ≡ round24 n → b ≡ round24 d → x ≡ of_int binary32 (pos a) → y ≡ of_int binary32 (pos b) → Facts n d (div binary32 x y)
-facts n d a b x y N N' D D' ea eb ex ey = record {
-  above = q_above n d a b x y N N' D D' ea eb ex ey;
-  under = q_under n d a b x y N N' D D' ea eb ex ey;
-  small = q_small n d a b x y N N' D D' ea eb ex ey;
-  more = one_more n d a b x y N N' D D' ea eb ex ey;
-  same = no_more n d a b x y N N' D D' ea eb ex ey;
+pub facts : (n d : ℕ) (q : Float) → n < 2 ^ 28 → HasValue q false (quotient24 (round24 n) (round24 d)) U → Facts n d q
+facts n d q N v = record {
+  above = above_minus_one q (quotient24 (round24 n) (round24 d)) U v;
+  under = q_under n d q N v;
+  small = q_small n d q N v;
+  more = one_more n d q N v;
+  same = no_more n d q N v;
 }

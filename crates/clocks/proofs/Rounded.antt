@@ -1,4 +1,4 @@
--- Rounding of whole numbers: `closest` by its three cases, and a number's digits past 24. Nothing here is about floats.
+-- Rounding of whole numbers: `closest`, and a number's digits past 24. Nothing here is about floats.
 use Rattle.std.proofs.Common.{◌≡◌, ℕ, suc, ◌+◌, ◌-◌, ◌*◌, ◌/◌, ◌%◌, ◌^◌, ◌<◌, ◌≤◌, Bool, true, false, not, T, eqb, leb, ◌⊎◌, sym, refl, ap, ◌∙◌, subst, inl, inr, le_trans, le_of_eq, lt_of_lt_of_le, lt_of_le_of_lt, add-zero, mod-lt, suc-mul, div-lt_iff_lt-mul, add-mul, mul-le-mul, le_antisymm, mul-pos, one-mul, lt_of_not-le, div-add-mod', le-div_iff_mul-le, zero-mul, div-le_self, not-le_of_lt, div-mul-le_self, div-one, add-one, arith, lit<, eqb→eq, leb→le, pow_pos, pow_mono, pow-add}
 use Prim.Native.Nat.{compare, Ordering}
 use native.Mathlib.Nat.{div-div-eq-div-mul}
@@ -37,9 +37,6 @@ clash_lt a b h k = omega arith
 clash_eq : (a b : ℕ) → a < b → a ≡ b → ⊥
 clash_eq a b h k = omega arith
 
-clash_eq' : (a b : ℕ) → b < a → a ≡ b → ⊥
-clash_eq' a b h k = omega arith
-
 is_lt : (a b : ℕ) → a < b → compare a b ≡ Ordering.lt
 is_lt a b h = go (compare a b) (cmp a b)
   where
@@ -48,63 +45,19 @@ is_lt a b h = go (compare a b) (cmp a b)
     go Ordering.eq k = absurd (clash_eq a b h k)
     go Ordering.gt k = absurd (clash_lt a b h k)
 
-is_eq : (a b : ℕ) → a ≡ b → compare a b ≡ Ordering.eq
-is_eq a b h = go (compare a b) (cmp a b)
-  where
-    go : (o : Ordering) → Cmp o a b → o ≡ Ordering.eq
-    go Ordering.lt k = absurd (clash_eq a b k h)
-    go Ordering.eq k = refl
-    go Ordering.gt k = absurd (clash_eq' a b k h)
-
-is_gt : (a b : ℕ) → b < a → compare a b ≡ Ordering.gt
-is_gt a b h = go (compare a b) (cmp a b)
-  where
-    go : (o : Ordering) → Cmp o a b → o ≡ Ordering.gt
-    go Ordering.lt k = absurd (clash_lt a b k h)
-    go Ordering.eq k = absurd (clash_eq' a b h k)
-    go Ordering.gt k = refl
-
--- ---- the multiple of u nearest to x
-module _ (x u : ℕ) where
-  pub near_below : x % u * 2 < u → x - x % u ≡ closest x u * u
-  near_below h =
-      let e = div-add-mod' x u in
-      let d : x - x % u ≡ x / u * u = omega arith in
-      d ∙ ap (λ (o : Ordering). nearest (x / u) o * u) (sym (is_lt (x % u * 2) u h))
-
-  pub near_above : u < x % u * 2 → x - x % u + u ≡ closest x u * u
-  near_above h =
-      let e = div-add-mod' x u in
-      let d : x - x % u + u ≡ x / u * u + u = omega arith in
-      d ∙ sym (suc-mul (x / u) u) ∙ ap (λ (o : Ordering). nearest (x / u) o * u) (sym (is_gt (x % u * 2) u h))
-
-  pub near_even : x % u * 2 ≡ u → x / u % 2 ≡ 0 → x - x % u ≡ closest x u * u
-  near_even h z =
-      let e = div-add-mod' x u in
-      let d : x - x % u ≡ x / u * u = omega arith in
-      let n : x / u ≡ x / u + x / u % 2 = omega arith in
-      d ∙ ap (λ (q : ℕ). q * u) n ∙ ap (λ (o : Ordering). nearest (x / u) o * u) (sym (is_eq (x % u * 2) u h))
-
-  pub near_odd : x % u * 2 ≡ u → (x / u % 2 ≡ 0 → ⊥) → x - x % u + u ≡ closest x u * u
-  near_odd h z =
-      let e = div-add-mod' x u in
-      let d : x - x % u + u ≡ x / u * u + u = omega arith in
-      let n : suc (x / u) ≡ x / u + x / u % 2 = omega arith in
-      d ∙ sym (suc-mul (x / u) u) ∙ ap (λ (q : ℕ). q * u) n ∙ ap (λ (o : Ordering). nearest (x / u) o * u) (sym (is_eq (x % u * 2) u h))
+-- ---- the multiple of u nearest to an x that is nearer to the one below
+pub near_below : (x u : ℕ) → x % u * 2 < u → x - x % u ≡ closest x u * u
+near_below x u h =
+    let e = div-add-mod' x u in
+    let d : x - x % u ≡ x / u * u = omega arith in
+    d ∙ ap (λ (o : Ordering). nearest (x / u) o * u) (sym (is_lt (x % u * 2) u h))
 
 -- ---- how many digits
 size_gt : (n j : ℕ) → 2 ^ j ≤ n → j < size n
 size_gt n j h = lt_of_not-le (λ (g : size n ≤ j). not-le_of_lt (lt_of_lt_of_le (size-lt n) (pow_mono g)) h)
 
-past : (z k : ℕ) → z ≤ 24 + k → 23 + k < z → z - 24 ≡ k
-past z k a b = omega arith
-
 none_past : (z : ℕ) → z ≤ 24 → z - 24 ≡ 0
 none_past z a = omega arith
-
--- x from 2 ^ (23 + k) up and below 2 ^ (24 + k) has k digits past 24
-pub past_is : (x k : ℕ) → 2 ^ (23 + k) ≤ x → x < 2 ^ (24 + k) → size x - 24 ≡ k
-past_is x k lo hi = past (size x) k (size-le x (24 + k) hi) (size_gt x (23 + k) lo)
 
 pub past_none : (x : ℕ) → x < 2 ^ 24 → size x - 24 ≡ 0
 past_none x hi = none_past (size x) (size-le x 24 hi)

@@ -1,16 +1,16 @@
 -- The rows, each by the ratios that it is for and as the code writes it, an f32 by its bit pattern; and what every row's divider is.
-use Rattle.std.proofs.Common.{◌≡◌, ℕ, ◌^◌, ◌<◌, ◌≤◌, Bool, true, false, cond, eqb, leb, pos, sym, refl, ap, ◌∙◌, arith, lit≤, pow_pos, pow_mono, le-leb}
+use Rattle.std.proofs.Common.{◌≡◌, ℕ, ◌^◌, ◌<◌, ◌≤◌, Float, Bool, true, false, cond, eqb, leb, pos, sym, refl, ap, ◌∙◌, arith, lit≤, pow_pos, pow_mono, le-leb}
 use borrow.Author.Tests.{lt-leb}
 use lib.Ieee.{binary32, of_bits, of_int}
 use Rattle.clocks.specs.Ratio.{ratio_up}
 use Rattle.clocks.specs.Rows.{Row, row, hpre_row, ppre_row}
 use Rattle.clocks.specs.Derive.{hpre_of}
 use Rattle.clocks.specs.Inner.{hpre_held, ppre_held, whole_of, PowerOfTwo}
-use Rattle.clocks.specs.declared.Hpre.{Hpre}
+use Rattle.clocks.specs.declared.Prescaler.{Prescaler}
 use Rattle.clocks.proofs.Exactly.{whole_of_power}
 
 -- ---- HPRE
-abbrev pub written : ℕ → ℕ → Hpre
+abbrev pub written : ℕ → ℕ → Prescaler Float
 written bits code = record { div = of_bits binary32 bits; code = code }
 
 pub last_row : written 1140850688 15 ≡ hpre_held (row 512 15)
@@ -126,11 +126,11 @@ ppre_power r =
     (either (leb r 6) (power 2 (row 4 5) (lit≤ tt) refl)
     (either (leb r 12) (power 3 (row 8 6) (lit≤ tt) refl) (power 4 (row 16 7) (lit≤ tt) refl))))
 
-module _ (s w : ℕ) (x : Hpre) (e : x ≡ hpre_held (hpre_of s w)) where
+module _ (s w : ℕ) (x : Prescaler Float) (e : x ≡ hpre_held (hpre_of s w)) where
   pub divider_power : PowerOfTwo x.div
   divider_power =
       let p = hpre_power s w in
-      record { exponent = p.exponent; small = p.small; is = ap (λ (z : Hpre). z.div) e ∙ ap (λ (d : ℕ). of_int binary32 (pos d)) p.is }
+      record { exponent = p.exponent; small = p.small; is = ap (λ (z : Prescaler Float). z.div) e ∙ ap (λ (d : ℕ). of_int binary32 (pos d)) p.is }
 
   pub divider_whole : whole_of x.div ≡ (hpre_of s w).divider
   unfolding divider_power

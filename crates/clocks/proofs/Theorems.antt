@@ -1,7 +1,12 @@
 -- What is promised of derive, for every configuration; each is read off one view of the answer and the lemmas of the other files.
-use Rattle.std.proofs.Common.{◌≡◌, ℕ, ◌-◌, ◌/◌, ◌<◌, ◌≤◌, Bool, true, false, cond, T, eqb, ltb, leb, ◌↔◌, [], ◌∷◌, refl, subst, arith, ltb-false, ltb-true, eqb-true, leb-false, leb-true}
+use Rattle.std.proofs.Common.{◌≡◌, ℕ, ◌-◌, ◌/◌, ◌<◌, ◌≤◌, Bool, true, false, cond, T, eqb, ltb, leb, ◌↔◌, [], ◌∷◌, refl, sym, ◌∙◌, subst, arith, ltb-false, ltb-true, eqb-true, leb-false, leb-true}
 use borrow.Author.Tests.{eqb-false, lt-leb}
+use Rattle.std.specs.Prelude.{Result, Ok, Err}
 use Rattle.kinds.specs.Limits.{check_of}
+use Rattle.kinds.specs.Refusals.{refusal_of}
+use Rattle.kinds.specs.declared.refusals.Refusal.{Refusal}
+use Rattle.kinds.specs.declared.refusals.Refusal.TheVariants.{DerivedSysclk}
+use Rattle.kinds.proofs.Numbered.{check_numbered}
 use Rattle.kinds.specs.Table.{Between, Refused, limit_numbers, Checked}
 use Rattle.kinds.specs.Turns.{turn_of, First, none, first, OneOf}
 use Rattle.kinds.proofs.Turns.{exactly, wider, ahead, in_order, none_is}
@@ -14,26 +19,28 @@ use Rattle.clocks.specs.Inner.{Sysclk}
 use Rattle.clocks.specs.declared.Clocks.{Clocks}
 use Rattle.clocks.specs.declared.InternalRCCConfig.{InternalRCCConfig}
 use Rattle.clocks.specs.declared.Derived.{Derived}
-use Rattle.clocks.specs.declared.Derived.TheVariants.{Refused as NotDerived, At}
 use Rattle.clocks.proofs.Deriving.{sysclk_facts, hclk_range}
 use Rattle.clocks.proofs.Table.{hpre_power}
 use Rattle.clocks.proofs.Caps.{caps1, caps2, pclk_within}
 
 -- ---- how an answer comes about
-pub data DerivedView (c : CFGR) : Derived → Type 0 where
-  limited : (check_of c ≡ 0 → ⊥) → DerivedView c (NotDerived (check_of c))
-  above : Checked c → 216000000 < sysclk_of c → DerivedView c (NotDerived 8)
-  given : Checked c → Sysclk (sysclk_of c) → DerivedView c (At (clocks_of c) (config_of c))
+abbrev answer : CFGR → Result Derived Refusal
+answer c = Ok (record { clocks = clocks_of c; config = config_of c })
+
+pub data DerivedView (c : CFGR) : Result Derived Refusal → Type 0 where
+  limited : (check_of c ≡ 0 → ⊥) → DerivedView c (Err (refusal_of (check_of c)))
+  above : Checked c → 216000000 < sysclk_of c → DerivedView c (Err DerivedSysclk)
+  given : Checked c → Sysclk (sysclk_of c) → DerivedView c (answer c)
 
 pub derived_view : (c : CFGR) → DerivedView c (derived_of c)
 unfolding derived_of settled_of
 derived_view c = from (eqb (check_of c) 0) refl
   where
-    at : (t : Bool) → ltb 216000000 (sysclk_of c) ≡ t → Checked c → DerivedView c (cond t (NotDerived 8) (At (clocks_of c) (config_of c)))
+    at : (t : Bool) → ltb 216000000 (sysclk_of c) ≡ t → Checked c → DerivedView c (cond t (Err DerivedSysclk) (answer c))
     at true e k = above k (ltb-true 216000000 (sysclk_of c) e)
     at false e k = given k (sysclk_facts c k (ltb-false 216000000 (sysclk_of c) e))
 
-    from : (t : Bool) → eqb (check_of c) 0 ≡ t → DerivedView c (cond t (cond (ltb 216000000 (sysclk_of c)) (NotDerived 8) (At (clocks_of c) (config_of c))) (NotDerived (check_of c)))
+    from : (t : Bool) → eqb (check_of c) 0 ≡ t → DerivedView c (cond t (cond (ltb 216000000 (sysclk_of c)) (Err DerivedSysclk) (answer c)) (Err (refusal_of (check_of c))))
     from true e = at (ltb 216000000 (sysclk_of c)) refl (check_told c (eqb-true (check_of c) 0 e))
     from false e = limited (eqb-false (check_of c) 0 e)
 
@@ -63,8 +70,8 @@ derive_first c = from (derived_of c) (derived_view c)
     never q l k (limit r) = kept_none c q k r
     never q l k (sysclk h) = omega arith
 
-    from : (d : Derived) → DerivedView c d → First (DeriveRefused c) (derived_number d)
-    from d (limited n) = limits (check_of c) (check_first c) n
+    from : (d : Result Derived Refusal) → DerivedView c d → First (DeriveRefused c) (derived_number d)
+    from d (limited n) = subst (First (DeriveRefused c)) (sym (check_numbered c n)) (limits (check_of c) (check_first c) n)
     from d (above q h) = first (sysclk h) (only q)
     from d (given q s) = none (never q s.high)
 
@@ -76,16 +83,16 @@ derive_refuses_exactly c n = exactly (derive_first c)
 pub derive_accepts_exactly : (c : CFGR) → (derived_number (derived_of c) ≡ 0) ↔ (Checked c × (sysclk_of c ≤ 216000000))
 derive_accepts_exactly c = from (derived_of c) (derived_view c)
   where
-    from : (d : Derived) → DerivedView c d → (derived_number d ≡ 0) ↔ (Checked c × (sysclk_of c ≤ 216000000))
-    from d (limited n) = (λ e. absurd (n e), λ w. absurd (n (told_check c w.0)))
+    from : (d : Result Derived Refusal) → DerivedView c d → (derived_number d ≡ 0) ↔ (Checked c × (sysclk_of c ≤ 216000000))
+    from d (limited n) = (λ e. absurd (n (sym (check_numbered c n) ∙ e)), λ w. absurd (n (told_check c w.0)))
     from d (above q h) = (λ e. absurd (omega arith), λ w. absurd (omega (arith, w.1)))
     from d (given q s) = (λ e. (q, s.high), λ w. refl)
 
 -- and its answer is then the clocks and codes that the settings give
-pub derive_gives : (c : CFGR) → Checked c → sysclk_of c ≤ 216000000 → derived_of c ≡ At (clocks_of c) (config_of c)
+pub derive_gives : (c : CFGR) → Checked c → sysclk_of c ≤ 216000000 → derived_of c ≡ answer c
 derive_gives c k l = from (derived_of c) (derived_view c)
   where
-    from : (d : Derived) → DerivedView c d → d ≡ At (clocks_of c) (config_of c)
+    from : (d : Result Derived Refusal) → DerivedView c d → d ≡ answer c
     from d (limited n) = absurd (n (told_check c k))
     from d (above q h) = absurd (omega arith)
     from d (given q s) = refl
@@ -94,8 +101,8 @@ derive_gives c k l = from (derived_of c) (derived_view c)
 pub derive_refuses_with_8_exactly : (c : CFGR) → (derived_number (derived_of c) ≡ 8) ↔ (Checked c × (216000000 < sysclk_of c))
 derive_refuses_with_8_exactly c = from (derived_of c) (derived_view c)
   where
-    from : (d : Derived) → DerivedView c d → (derived_number d ≡ 8) ↔ (Checked c × (216000000 < sysclk_of c))
-    from d (limited n) = (λ e. absurd (none_is 8 (0 ∷ limit_numbers) tt (check_of c) (check_gives_only c) e), λ w. absurd (n (told_check c w.0)))
+    from : (d : Result Derived Refusal) → DerivedView c d → (derived_number d ≡ 8) ↔ (Checked c × (216000000 < sysclk_of c))
+    from d (limited n) = (λ e. absurd (none_is 8 (0 ∷ limit_numbers) tt (check_of c) (check_gives_only c) (sym (check_numbered c n) ∙ e)), λ w. absurd (n (told_check c w.0)))
     from d (above q h) = (λ e. (q, h), λ w. refl)
     from d (given q s) = (λ e. absurd (omega arith), λ w. absurd (omega (arith, w.1, s.high)))
 
@@ -103,8 +110,8 @@ derive_refuses_with_8_exactly c = from (derived_of c) (derived_view c)
 pub derive_gives_only : (c : CFGR) → OneOf (0 ∷ derive_numbers) (derived_number (derived_of c))
 derive_gives_only c = from (derived_of c) (derived_view c)
   where
-    from : (d : Derived) → DerivedView c d → OneOf (0 ∷ derive_numbers) (derived_number d)
-    from d (limited n) = wider (0 ∷ limit_numbers) (0 ∷ derive_numbers) tt (check_of c) (check_gives_only c)
+    from : (d : Result Derived Refusal) → DerivedView c d → OneOf (0 ∷ derive_numbers) (derived_number d)
+    from d (limited n) = subst (OneOf (0 ∷ derive_numbers)) (sym (check_numbered c n)) (wider (0 ∷ limit_numbers) (0 ∷ derive_numbers) tt (check_of c) (check_gives_only c))
     from d (above q h) = tt
     from d (given q s) = tt
 
@@ -133,18 +140,17 @@ ladder_above s h =
     rw (lt-leb s 30000000 (omega arith), lt-leb s 60000000 (omega arith), lt-leb s 90000000 (omega arith), lt-leb s 120000000 (omega arith), lt-leb s 150000000 (omega arith), lt-leb s 180000000 (omega arith), lt-leb s 210000000 (omega arith))
 
 -- ---- what it answers
-module _ (c : CFGR) (x : Clocks) (y : InternalRCCConfig) (e : derived_of c ≡ At x y) where
+module _ (c : CFGR) (x : Clocks) (y : InternalRCCConfig) (e : derived_of c ≡ Ok (record { clocks = x; config = y })) where
   -- what holds of the clocks and codes of a configuration that is accepted holds of the answer
   carried : (P : Clocks → InternalRCCConfig → Type 0) → (Checked c → Sysclk (sysclk_of c) → P (clocks_of c) (config_of c)) → P x y
   carried P f = from (derived_of c) (derived_view c) e
     where
-      from : (d : Derived) → DerivedView c d → d ≡ At x y → P x y
+      from : (d : Result Derived Refusal) → DerivedView c d → d ≡ Ok (record { clocks = x; config = y }) → P x y
       from d (limited n) h = absurd (let z : ◌≡◌ {A = ℕ} 0 1 = cc in omega arith)
       from d (above q g) h = absurd (let z : ◌≡◌ {A = ℕ} 0 1 = cc in omega arith)
       from d (given q s) h =
-          let a : clocks_of c ≡ x = cc in
-          let b : config_of c ≡ y = cc in
-          subst (λ (z : InternalRCCConfig). P x z) b (subst (λ (z : Clocks). P z (config_of c)) a (f q s))
+          let a : ◌≡◌ {A = Derived} (record { clocks = clocks_of c; config = config_of c }) (record { clocks = x; config = y }) = cc in
+          subst (λ (z : Derived). P z.clocks z.config) a (f q s)
 
   -- HCLK is above 0 and at most SYSCLK
   pub hclk_within_sysclk : Between 1 x.sysclk.0 x.hclk.0

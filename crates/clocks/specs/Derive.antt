@@ -1,20 +1,22 @@
 -- Document 01, "Derived clocks": what a configuration's settings give as they stand.
-use Rattle.std.specs.Prelude.{ℕ, ◌*◌, ◌/◌, min, Bool, false, cond, ◌&&◌, ◌==◌, nat_le, nat_lt}
+use Rattle.std.specs.Prelude.{ℕ, ◌*◌, ◌/◌, min, Bool, false, cond, ◌&&◌, ◌==◌, nat_le, nat_lt, Option, None, Some, Result, Ok, Err}
 use Rattle.kinds.specs.Config.{input_of}
 use Rattle.kinds.specs.Codes.{p_divider_of}
 use Rattle.kinds.specs.Limits.{check_of}
+use Rattle.kinds.specs.Refusals.{refusal_of}
+use Rattle.kinds.specs.declared.refusals.Refusal.{Refusal}
+use Rattle.kinds.specs.declared.refusals.Refusal.TheVariants.{DerivedSysclk}
 use Rattle.kinds.specs.declared.CFGR.{CFGR}
 use Rattle.kinds.specs.declared.Pll.{Pll}
 use Rattle.kinds.specs.declared.Sai.{Sai}
 use Rattle.kinds.specs.declared.Sources.{Sources}
-use Rattle.kinds.specs.declared.Request.{Request}
-use Rattle.kinds.specs.declared.Request.TheVariants.{Absent as NoRequest, At as Asked}
-use Rattle.kinds.specs.declared.Choice48.{Choice48}
-use Rattle.kinds.specs.declared.Choice48.TheVariants.{Absent as NoChoice, Pllq, Pllsai}
+use Rattle.kinds.specs.declared.Hertz.{Hertz}
+use Rattle.kinds.specs.declared.PLL48CLK.{PLL48CLK}
+use Rattle.kinds.specs.declared.PLL48CLK.TheVariants.{Pllq, Pllsai}
 use Rattle.kinds.specs.declared.HSEClock.{HSEClock}
-use Rattle.kinds.specs.declared.HSEClock.TheVariants.{Absent as NoHse, Oscillator, Bypass}
-use Rattle.kinds.specs.declared.LSEClock.{LSEClock}
-use Rattle.kinds.specs.declared.LSEClock.TheVariants.{Absent as NoLse, Oscillator as LseOscillator, Bypass as LseBypass}
+use Rattle.kinds.specs.declared.HSEClock.TheVariants.{Oscillator, Bypass}
+use Rattle.kinds.specs.declared.LSEClockMode.{LSEClockMode}
+use Rattle.kinds.specs.declared.LSEClockMode.TheVariants.{Oscillator as LseOscillator, Bypass as LseBypass}
 use Rattle.pll.specs.Fixed.{inside, vco_of, out_of}
 use Rattle.pll.specs.Outputs.{base_of, p_output_of, q_low, q_high}
 use Rattle.clocks.specs.Ratio.{ratio_up}
@@ -24,16 +26,15 @@ use Rattle.clocks.specs.declared.Apb.{Apb}
 use Rattle.clocks.specs.declared.Clocks.{Clocks}
 use Rattle.clocks.specs.declared.InternalRCCConfig.{InternalRCCConfig}
 use Rattle.clocks.specs.declared.Derived.{Derived}
-use Rattle.clocks.specs.declared.Derived.TheVariants.{Refused, At}
 
 -- SYSCLK is 16 × b without `use_pll`, else the P output
 unfoldable pub sysclk_of : CFGR → ℕ
 sysclk_of c = cond c.pll.use_pll (p_output_of c) (base_of (input_of c.sources.hse))
 
 -- the smaller of `most` and the request, or `own` without one; HCLK wanted: the smaller of SYSCLK and any request, so both are SYSCLK
-unfoldable pub wanted_of : ℕ → ℕ → Request → ℕ
-wanted_of most own NoRequest = min most own
-wanted_of most own (Asked f) = min most f.0
+unfoldable pub wanted_of : ℕ → ℕ → Option Hertz → ℕ
+wanted_of most own None = min most own
+wanted_of most own (Some f) = min most f.0
 
 -- HPRE's row for SYSCLK s and HCLK wanted w: by the ratio, the last for a request of 0
 unfoldable pub hpre_of : ℕ → ℕ → Row
@@ -43,7 +44,7 @@ hpre_of s w = cond (w == 0) (row 512 15) (hpre_row (ratio_up s w))
 abbrev pub ahb_by : ℕ → Row → Ahb
 ahb_by s x = record { hclk = record { 0 = s / x.divider }; hpre = x.code }
 
-unfoldable pub ahb_for : ℕ → Request → Ahb
+unfoldable pub ahb_for : ℕ → Option Hertz → Ahb
 ahb_for s q = ahb_by s (hpre_of s (wanted_of s s q))
 
 -- PCLK's cap: the first while SYSCLK is at most 180 MHz, else the second
@@ -65,7 +66,7 @@ abbrev pub apb_by : ℕ → Row → Apb
 apb_by h x = record { pclk = record { 0 = h / x.divider }; timclk = record { 0 = timclk_of (h / x.divider) x.divider }; ppre = x.code }
 
 -- PCLK wanted is the smaller of its cap and its request (HCLK without one)
-unfoldable pub apb_for : ℕ → ℕ → Request → Apb
+unfoldable pub apb_for : ℕ → ℕ → Option Hertz → Apb
 apb_for most h q = apb_by h (ppre_row (ratio_up h (wanted_of most h q)))
 
 -- wait states: 0 up to 30 MHz, one more for each further 30 MHz begun, 7 above 210 MHz
@@ -89,27 +90,27 @@ overdrive_of s = nat_lt 180000000 s
 
 -- the 48 MHz clock is valid when its fixed-point output (PLLQ, or PLLSAI's N and P if PLLSAI is used) lies in the Q window;
 -- with no choice, or PLLSAI chosen but not used, it isn't valid
-abbrev pub valid_by : Choice48 → ℕ → Pll → Sai → Bool
-valid_by NoChoice f l a = false
-valid_by Pllq f l a = inside q_low q_high (out_of (vco_of f l.n.0 l.m.0) l.q.0)
-valid_by Pllsai f l a = a.use_pllsai && inside q_low q_high (out_of (vco_of f a.n.0 l.m.0) (p_divider_of a.p))
+abbrev pub valid_by : Option PLL48CLK → ℕ → Pll → Sai → Bool
+valid_by None f l a = false
+valid_by (Some Pllq) f l a = inside q_low q_high (out_of (vco_of f l.n.0 l.m.0) l.q.0)
+valid_by (Some Pllsai) f l a = a.use_pllsai && inside q_low q_high (out_of (vco_of f a.n.0 l.m.0) (p_divider_of a.p))
 
 unfoldable pub valid_of : ℕ → Pll → Sai → Bool
 valid_of f l a = valid_by l.pll48clk f l a
 
 -- `Clocks` also hands back HSE as given, LSE 32,768 and LSI 32,000 where asked
-abbrev pub hse_given : HSEClock → Request
-hse_given NoHse = NoRequest
-hse_given (Oscillator f) = Asked f
-hse_given (Bypass f) = Asked f
+abbrev pub hse_given : Option HSEClock → Option Hertz
+hse_given None = None
+hse_given (Some (Oscillator f)) = Some f
+hse_given (Some (Bypass f)) = Some f
 
-abbrev pub lse_given : LSEClock → Request
-lse_given NoLse = NoRequest
-lse_given LseOscillator = Asked (record { 0 = 32768 })
-lse_given LseBypass = Asked (record { 0 = 32768 })
+abbrev pub lse_given : Option LSEClockMode → Option Hertz
+lse_given None = None
+lse_given (Some LseOscillator) = Some (record { 0 = 32768 })
+lse_given (Some LseBypass) = Some (record { 0 = 32768 })
 
-abbrev pub lsi_given : Bool → Request
-lsi_given on = cond on (Asked (record { 0 = 32000 })) NoRequest
+abbrev pub lsi_given : Bool → Option Hertz
+lsi_given on = cond on (Some (record { 0 = 32000 })) None
 
 abbrev pub clocks_by : ℕ → Ahb → Apb → Apb → Sources → Bool → Clocks
 clocks_by s bus one two o valid =
@@ -156,9 +157,9 @@ unfoldable pub config_of : CFGR → InternalRCCConfig
 config_of c = config_by (sysclk_of c) (ahb_of c) (apb1_of c) (apb2_of c)
 
 -- derive takes the settings as they stand: 8 for a derived SYSCLK above 216 MHz
-unfoldable pub settled_of : CFGR → Derived
-settled_of c = cond (nat_lt 216000000 (sysclk_of c)) (Refused 8) (At (clocks_of c) (config_of c))
+unfoldable pub settled_of : CFGR → Result Derived Refusal
+settled_of c = cond (nat_lt 216000000 (sysclk_of c)) (Err DerivedSysclk) (Ok (record { clocks = clocks_of c; config = config_of c }))
 
 -- it checks 1 to 6 again
-unfoldable pub derived_of : CFGR → Derived
-derived_of c = cond (check_of c == 0) (settled_of c) (Refused (check_of c))
+unfoldable pub derived_of : CFGR → Result Derived Refusal
+derived_of c = cond (check_of c == 0) (settled_of c) (Err (refusal_of (check_of c)))

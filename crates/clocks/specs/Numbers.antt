@@ -1,8 +1,9 @@
 -- Document 01's number of each answer: 0 accepted, else the refusal.
-use Rattle.std.specs.Prelude.{ℕ}
+use Rattle.std.specs.Prelude.{ℕ, Result, Ok, Err}
+use Rattle.kinds.specs.Refusals.{number_of}
+use Rattle.kinds.specs.declared.refusals.Refusal.{Refusal}
 use Rattle.clocks.specs.declared.Derived.{Derived}
-use Rattle.clocks.specs.declared.Derived.TheVariants.{Refused, At}
 
-abbrev pub derived_number : Derived → ℕ
-derived_number (Refused n) = n
-derived_number (At x y) = 0
+abbrev pub derived_number : Result Derived Refusal → ℕ
+derived_number (Err r) = number_of r
+derived_number (Ok d) = 0

@@ -1,36 +1,30 @@
 // HCLK, the PCLKs and their timers: what is wanted, the row that is chosen, what is granted.
-ghost use Rattle.std.specs.Prelude.{◌≡◌, ◌<◌, ◌≤◌, min};
+ghost use Rattle.std.specs.Prelude.{◌≡◌, ◌≤◌};
 ghost use Rattle.clocks.specs.Derive.{wanted_of, hpre_of, cap_of, timclk_of, ahb_for, apb_for};
-ghost use Rattle.clocks.specs.Inner.{Sysclk, Hclk, hpre_held};
+ghost use Rattle.clocks.specs.Inner.{Hclk, hpre_held};
 
 use super::ratio::{divided, ratio_up};
 use super::rows::{hpre_row, ppre_row};
-use super::{Ahb, Apb, Hpre};
-use kinds::{Divider, Hertz, Request};
-
-fn least(a: Hertz, b: Hertz) -> Hertz
-    ensures { result.0 ≡ min a.0 b.0 }
-{
-    if a.0 < b.0 { a } else { b }
-}
+use super::{Ahb, Apb, Prescaler, SystemClock};
+use kinds::{Divider, Hertz};
 
 // The smaller of `most` and the request (`own` without one).
-fn wanted(most: Hertz, own: Hertz, q: Request) -> Hertz
+#[tactic(auto, unfolding(crate::specs::Derive::wanted_of))]
+fn wanted(most: Hertz, own: Hertz, q: Option<Hertz>) -> Hertz
     ensures { result.0 ≡ wanted_of most.0 own.0 q }
 {
-    match q {
-        Request::Absent => least(most, own),
-        Request::At(f) => least(most, f),
-    }
+    Hertz(most.0.min(q.unwrap_or(own).0))
 }
 
-// HPRE's row for an HCLK wanted; the last for a request of 0.
-fn hpre(s: Hertz, w: Hertz) -> Hpre
-    requires { (0 < s.0) × (s.0 ≤ 216000000) × (w.0 ≤ 216000000) }
-    ensures { result ≡ hpre_held (hpre_of s.0 w.0) }
+// HPRE's row for the HCLK wanted; the last for a request of 0.
+#[tactic(auto, using(crate::proofs::Table::last_row, crate::proofs::Deriving::wanted_high), unfolding(crate::specs::Derive::hpre_of))]
+fn hpre(s: SystemClock, q: Option<Hertz>) -> Prescaler<f32>
+    ensures { result ≡ hpre_held (hpre_of s.hertz.0 (wanted_of s.hertz.0 s.hertz.0 q)) }
 {
+    let s = s.hertz;
+    let w = wanted(s, s, q);
     if w.0 == 0 {
-        Hpre {
+        Prescaler {
             div: 512.0,
             code: 15,
         }
@@ -39,19 +33,19 @@ fn hpre(s: Hertz, w: Hertz) -> Hpre
     }
 }
 
-pub(crate) fn ahb(s: Hertz, q: Request) -> Ahb
-    requires { Sysclk s.0 }
-    ensures { result ≡ ahb_for s.0 q }
+#[tactic(auto, using(crate::proofs::Table::divider_power, crate::proofs::Table::divider_whole), unfolding(crate::specs::Derive::ahb_for))]
+pub(crate) fn ahb(s: SystemClock, q: Option<Hertz>) -> Ahb
+    ensures { result ≡ ahb_for s.hertz.0 q }
 {
-    let row = hpre(s, wanted(s, s, q));
-    let by = row.div;
+    let row = hpre(s, q);
     Ahb {
-        hclk: Hertz(divided(s, by)),
+        hclk: Hertz(divided(s, row.div)),
         hpre: row.code,
     }
 }
 
 // A PCLK's cap: `lo` while SYSCLK is at most 180 MHz, else `hi`.
+#[tactic(auto, unfolding(crate::specs::Derive::cap_of))]
 pub(crate) fn cap(s: Hertz, lo: Hertz, hi: Hertz) -> Hertz
     ensures { result.0 ≡ cap_of s.0 lo.0 hi.0 }
 {
@@ -59,6 +53,7 @@ pub(crate) fn cap(s: Hertz, lo: Hertz, hi: Hertz) -> Hertz
 }
 
 // A timer's clock: TIMPRE is taken as 0.
+#[tactic(auto, unfolding(crate::specs::Derive::timclk_of))]
 fn timclk(p: Hertz, d: Divider) -> Hertz
     requires { p.0 ≤ 216000000 }
     ensures { result.0 ≡ timclk_of p.0 d.0 }
@@ -66,16 +61,16 @@ fn timclk(p: Hertz, d: Divider) -> Hertz
     if d.0 == 1 { p } else { Hertz(2 * p.0) }
 }
 
-pub(crate) fn apb(most: Hertz, h: Hertz, q: Request) -> Apb
+#[tactic(auto, using(crate::proofs::Deriving::wanted_range, crate::proofs::Deriving::ppre_pos), unfolding(crate::specs::Derive::apb_for))]
+pub(crate) fn apb(most: Hertz, h: Hertz, q: Option<Hertz>) -> Apb
     requires { Hclk most.0 h.0 q }
     ensures { result ≡ apb_for most.0 h.0 q }
 {
     let row = ppre_row(ratio_up(h, wanted(most, h, q)));
-    let by = row.div;
-    let p = Hertz(h.0 / by.0);
+    let pclk = Hertz(h.0 / row.div.0);
     Apb {
-        pclk: p,
-        timclk: timclk(p, by),
+        pclk,
+        timclk: timclk(pclk, row.div),
         ppre: row.code,
     }
 }

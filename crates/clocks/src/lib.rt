@@ -2,22 +2,22 @@
 #![tactic(auto)]
 
 mod buses;
-mod outputs;
+mod checked;
 mod power;
 mod ratio;
 mod rows;
 mod sources;
 
 ghost use Rattle.std.specs.Prelude.{◌≡◌};
-ghost use Rattle.kinds.specs.Table.{Checked, RequestsWithin};
-ghost use Rattle.clocks.specs.Derive.{clocks_by, config_by, settled_of, derived_of};
-ghost use Rattle.clocks.specs.Inner.{Sysclk, granted_of};
+ghost use Rattle.clocks.specs.Derive.{clocks_by, config_by, derived_of};
+ghost use Rattle.clocks.specs.Inner.{Sysclk};
 
-use buses::{ahb, apb, cap};
-use kinds::{CFGR, Divider, Hertz, Request, Requests, Sources};
+use checked::settled;
+use kinds::{CFGR, Hertz, Refusal, Sources};
+use pll::Checked;
 
 // The frozen clocks.
-#[derive(Clone, Copy)]
+#[derive(Clone, Copy, PartialEq, Eq)]
 pub struct Clocks {
     pub hclk: Hertz,
     pub pclk1: Hertz,
@@ -26,13 +26,13 @@ pub struct Clocks {
     pub timclk1: Hertz,
     pub timclk2: Hertz,
     pub pll48clk_valid: bool,
-    pub hse: Request,
-    pub lse: Request,
-    pub lsi: Request,
+    pub hse: Option<Hertz>,
+    pub lse: Option<Hertz>,
+    pub lsi: Option<Hertz>,
 }
 
-// The field codes that grant them; vos_scale is the scale's number.
-#[derive(Clone, Copy)]
+// The field codes that grant them, by number as the start-up stores them and C gets them; vos_scale is the scale's number.
+#[derive(Clone, Copy, PartialEq, Eq)]
 pub struct InternalRCCConfig {
     pub hpre: u8,
     pub ppre1: u8,
@@ -42,27 +42,24 @@ pub struct InternalRCCConfig {
     pub vos_scale: u8,
 }
 
-// A refusal of 1 to 6 or 8, or the clocks.
-#[derive(Clone, Copy)]
-pub enum Derived {
-    Refused(u8),
-    At {
-        clocks: Clocks,
-        config: InternalRCCConfig,
-    },
+// The clocks of a configuration, with their field codes.
+#[derive(Clone, Copy, PartialEq, Eq)]
+pub struct Derived {
+    pub clocks: Clocks,
+    pub config: InternalRCCConfig,
 }
 
-// A divider of SYSCLK, held as an f32, and the field code that selects it.
+// A SYSCLK that every HPRE divider leaves something of.
 #[derive(Clone, Copy)]
-struct Hpre {
-    div: f32,
-    code: u8,
+struct SystemClock {
+    hertz: Hertz,
+    ghost divides: { Sysclk hertz.0 },
 }
 
-// A divider of HCLK and the field code that selects it.
+// A divider and the field code that selects it: HPRE's divides SYSCLK and is held as an f32, a PPRE's divides HCLK.
 #[derive(Clone, Copy)]
-struct Ppre {
-    div: Divider,
+struct Prescaler<D> {
+    div: D,
     code: u8,
 }
 
@@ -80,96 +77,53 @@ struct Apb {
     ppre: u8,
 }
 
-// The clocks that are handed back.
-fn frozen(sysclk: Hertz, bus: Ahb, one: Apb, two: Apb, sources: Sources, valid: bool) -> Clocks
-    ensures { result ≡ clocks_by sysclk.0 bus one two sources valid }
-{
-    let hclk = bus.hclk;
-    let pclk1 = one.pclk;
-    let pclk2 = two.pclk;
-    let timclk1 = one.timclk;
-    let timclk2 = two.timclk;
-    let hse = sources.hse;
-    let lse = sources.lse;
-    Clocks {
-        hclk: hclk,
-        pclk1: pclk1,
-        pclk2: pclk2,
-        sysclk: sysclk,
-        timclk1: timclk1,
-        timclk2: timclk2,
-        pll48clk_valid: valid,
-        hse: sources::hse(hse),
-        lse: sources::lse(lse),
-        lsi: sources::lsi(sources.lsi),
+// What a SYSCLK grants.
+#[derive(Clone, Copy)]
+struct Granted {
+    sysclk: Hertz,
+    ahb: Ahb,
+    apb1: Apb,
+    apb2: Apb,
+}
+
+impl Granted {
+    // The clocks that are handed back.
+    fn frozen(self, sources: Sources, valid: bool) -> Clocks
+        ensures { result ≡ clocks_by self.sysclk.0 self.ahb self.apb1 self.apb2 sources valid }
+    {
+        Clocks {
+            hclk: self.ahb.hclk,
+            pclk1: self.apb1.pclk,
+            pclk2: self.apb2.pclk,
+            sysclk: self.sysclk,
+            timclk1: self.apb1.timclk,
+            timclk2: self.apb2.timclk,
+            pll48clk_valid: valid,
+            hse: sources::hse(sources.hse),
+            lse: sources::lse(sources.lse),
+            lsi: sources::lsi(sources.lsi),
+        }
+    }
+
+    // Their field codes.
+    fn codes(self) -> InternalRCCConfig
+        ensures { result ≡ config_by self.sysclk.0 self.ahb self.apb1 self.apb2 }
+    {
+        InternalRCCConfig {
+            hpre: self.ahb.hpre,
+            ppre1: self.apb1.ppre,
+            ppre2: self.apb2.ppre,
+            flash_waitstates: power::flash_waitstates(self.sysclk),
+            overdrive: power::overdrive(self.sysclk),
+            vos_scale: power::vos_scale(self.sysclk),
+        }
     }
 }
 
-// Their field codes.
-fn codes(sysclk: Hertz, bus: Ahb, one: Apb, two: Apb) -> InternalRCCConfig
-    ensures { result ≡ config_by sysclk.0 bus one two }
-{
-    InternalRCCConfig {
-        hpre: bus.hpre,
-        ppre1: one.ppre,
-        ppre2: two.ppre,
-        flash_waitstates: power::flash_waitstates(sysclk),
-        overdrive: power::overdrive(sysclk),
-        vos_scale: power::vos_scale(sysclk),
-    }
-}
-
-// What is derived from a SYSCLK.
-fn granted(sysclk: Hertz, requests: Requests, sources: Sources, valid: bool) -> Derived
-    requires { Sysclk sysclk.0 × RequestsWithin requests }
-    ensures { result ≡ granted_of sysclk.0 requests sources valid }
-{
-    let hclk = requests.hclk;
-    let pclk1 = requests.pclk1;
-    let pclk2 = requests.pclk2;
-    let bus = ahb(sysclk, hclk);
-    let h = bus.hclk;
-    let one = apb(cap(sysclk, Hertz(45000000), Hertz(54000000)), h, pclk1);
-    let two = apb(cap(sysclk, Hertz(90000000), Hertz(108000000)), h, pclk2);
-    Derived::At {
-        clocks: frozen(sysclk, bus, one, two, sources, valid),
-        config: codes(sysclk, bus, one, two),
-    }
-}
-
-// The clocks of a configuration that the check passes: 8 for a SYSCLK above 216 MHz.
-#[tactic(auto, using(crate::proofs::Deriving::settled_8, crate::proofs::Deriving::settled_at))]
-fn settled(cfgr: CFGR) -> Derived
-    requires { Checked cfgr }
-    ensures { result ≡ settled_of cfgr }
-{
-    let sources = cfgr.sources;
-    let requests = cfgr.requests;
-    let pll = cfgr.pll;
-    let sai = cfgr.sai;
-    let hse = sources.hse;
-    let input = kinds::input_of(hse);
-    let sysclk = outputs::sysclk(input, pll);
-    if 216000000 < sysclk {
-        Derived::Refused(8)
-    } else {
-        granted(
-            Hertz(sysclk as u32),
-            requests,
-            sources,
-            outputs::pll48clk_valid(input, pll, sai),
-        )
-    }
-}
-
-// The clocks of a configuration whose settings are taken as they stand.
-pub fn calculate_clocks(cfgr: CFGR) -> Derived
+// The clocks of a configuration whose settings are taken as they stand: checked, and derived where nothing is refused.
+#[tactic(auto, unfolding(crate::specs::Derive::derived_of, kinds::specs::Refusals::unless))]
+pub fn calculate_clocks(cfgr: CFGR) -> Result<Derived, Refusal>
     ensures { result ≡ derived_of cfgr }
 {
-    let number = cfgr.check();
-    if number == 0 {
-        settled(cfgr)
-    } else {
-        Derived::Refused(number)
-    }
+    settled(Checked::try_from(cfgr)?)
 }

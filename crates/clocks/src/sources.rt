@@ -2,34 +2,26 @@
 ghost use Rattle.std.specs.Prelude.{◌≡◌};
 ghost use Rattle.clocks.specs.Derive.{hse_given, lse_given, lsi_given};
 
-use kinds::{HSEClock, Hertz, LSEClock, Request};
+use kinds::{HSEClock, Hertz, LSEClockMode};
 
-pub(crate) fn hse(clock: HSEClock) -> Request
+// HSE by its cases, as its definition has it.
+pub(crate) fn hse(clock: Option<HSEClock>) -> Option<Hertz>
     ensures { result ≡ hse_given clock }
 {
     match clock {
-        HSEClock::Absent => Request::Absent,
-        HSEClock::Oscillator(f) => Request::At(f),
-        HSEClock::Bypass(f) => Request::At(f),
+        None => None,
+        Some(HSEClock::Oscillator(f) | HSEClock::Bypass(f)) => Some(f),
     }
 }
 
-pub(crate) fn lse(clock: LSEClock) -> Request
+pub(crate) fn lse(clock: Option<LSEClockMode>) -> Option<Hertz>
     ensures { result ≡ lse_given clock }
 {
-    match clock {
-        LSEClock::Absent => Request::Absent,
-        LSEClock::Oscillator => Request::At(Hertz(32768)),
-        LSEClock::Bypass => Request::At(Hertz(32768)),
-    }
+    clock.map(|_| Hertz(32768))
 }
 
-pub(crate) fn lsi(on: bool) -> Request
+pub(crate) fn lsi(on: bool) -> Option<Hertz>
     ensures { result ≡ lsi_given on }
 {
-    if on {
-        Request::At(Hertz(32000))
-    } else {
-        Request::Absent
-    }
+    on.then_some(Hertz(32000))
 }

@@ -1,4 +1,4 @@
--- The parts of pll_configure, the ways that it goes, then the theorems that are promised, and the examples.
+-- What a checked configuration has, the ways that pll_configure goes, then the theorems that are promised, and the examples.
 pub mod Configuring
 pub mod Going
 pub mod Taking

@@ -5,19 +5,16 @@ use mathlib.Core.Logic.{◌⊎◌, inl, inr}
 use mathlib.Core.Bool.{Bool, true, false, cond}
 use lib.Dec.{leb, leb→le, eqb, eqb→eq}
 use native.Mathlib.Omega.{arith}
+use Rattle.std.specs.Prelude.{Option, Some, None, Ok}
 use Rattle.kinds.specs.Codes.{p_divider_of}
 use Rattle.kinds.specs.Config.{input_of}
 use Rattle.kinds.specs.declared.CFGR.{CFGR}
 use Rattle.kinds.specs.declared.Divider.{Divider}
-use Rattle.kinds.specs.declared.Factor.{Factor}
 use Rattle.pll.specs.Fixed.{recip_of, vco_of, out_of}
 use Rattle.pll.specs.Walk.{p_dividers}
 use Rattle.pll.specs.Good.{Among, Hits, Chosen}
 use Rattle.pll.specs.declared.Window.{Window}
-use Rattle.pll.specs.declared.Window.TheVariants.{Absent, Within}
-use Rattle.pll.specs.declared.Sought.{Sought}
-use Rattle.pll.specs.declared.Sought.TheVariants.{Unasked, By}
-use Rattle.pll.specs.declared.Found.TheVariants.{Pair}
+use Rattle.pll.specs.declared.Pair.{Pair}
 use Rattle.pll.specs.Outputs.{p_output_of}
 use Rattle.pll.proofs.Reciprocal.{mul_le, out_floor, floor_near}
 use Rattle.configure.specs.Configure.{pllp_of, p_window_of, with_p, with_q, with_mn, base_in, wanted_in, p_window_in}
@@ -47,39 +44,39 @@ near_vco w v d x e h a t =
     rw e (near_hit w x d (omega arith) a (subst (λ (z : ℕ). Hits (w - 1) (w + 1) z d) e t))
 
 -- ---- the P window is absent, or the wanted value ± 1
-abbrev around : ℕ → Window
-around w = Within (record { 0 = w - 1 }) (record { 0 = w + 1 })
+abbrev around : ℕ → Option Window
+around w = Some (record { lo = record { 0 = w - 1 }; hi = record { 0 = w + 1 } })
 
-pub p_window_is : (c : CFGR) → (p_window_in c ≡ Absent) ⊎ (p_window_in c ≡ around (wanted_in c))
+pub p_window_is : (c : CFGR) → (p_window_in c ≡ None) ⊎ (p_window_in c ≡ around (wanted_in c))
 unfolding p_window_in p_window_of
 p_window_is c = from (eqb (wanted_in c) (base_in c))
   where
-    from : (t : Bool) → (cond t Absent (around (wanted_in c)) ≡ Absent) ⊎ (cond t Absent (around (wanted_in c)) ≡ around (wanted_in c))
+    from : (t : Bool) → (cond t None (around (wanted_in c)) ≡ None) ⊎ (cond t None (around (wanted_in c)) ≡ around (wanted_in c))
     from true = inl refl
     from false = inr refl
 
-module _ (c : CFGR) (m : Divider) (n : Factor) (x y : Sought) (k : ℕ) (e : search_in c ≡ Pair m n x y k) where
+module _ (c : CFGR) (r : Pair) (e : search_in c ≡ Ok r) where
   abbrev vco : ℕ
-  vco = vco_of (input_of c.sources.hse) n.0 m.0
+  vco = vco_of (input_of c.sources.hse) r.n.0 r.m.0
 
-  p_chosen : p_window_in c ≡ around (wanted_in c) → Chosen p_dividers (around (wanted_in c)) vco x
-  p_chosen h = rw (vco_found c m n x y k e) at (rw h at (best c m n x y k e).p_chosen)
+  p_chosen : p_window_in c ≡ around (wanted_in c) → Chosen p_dividers (around (wanted_in c)) vco r.p
+  p_chosen h = rw (vco_found c r e) at (rw h at (best c r e).p_chosen)
 
   sixteen : (X : ℕ) × (vco ≡ 16 * X)
   unfolding vco_of
   sixteen = (_, refl)
 
-  output_by : (d : Divider) → x ≡ By d → p_output_of (gives c m n x y) ≡ out_of vco (p_divider_of (pllp_of d.0))
+  output_by : (d : Divider) → r.p ≡ Some d → p_output_of (gives c r) ≡ out_of vco (p_divider_of (pllp_of d.0))
   unfolding p_output_of
-  output_by d h = rw (taken_m c.pll m n x y, taken_n c.pll m n x y, p_is y x h)
+  output_by d h = rw (taken_m c.pll r.m r.n r.p r.q, taken_n c.pll r.m r.n r.p r.q, p_is r.q r.p h)
     where
-      p_is : (y x : Sought) → x ≡ By d → (with_q (with_p (with_mn c.pll m n) x) y).p ≡ pllp_of d.0
-      p_is Unasked x h = rw h
-      p_is (By z) x h = rw h
+      p_is : (y x : Option Divider) → x ≡ Some d → (with_q (with_p (with_mn c.pll r.m r.n) x) y).p ≡ pllp_of d.0
+      p_is None x h = rw h
+      p_is (Some z) x h = rw h
 
-  pub found_near : p_window_in c ≡ around (wanted_in c) → Near (wanted_in c) (p_output_of (gives c m n x y))
+  pub found_near : p_window_in c ≡ around (wanted_in c) → Near (wanted_in c) (p_output_of (gives c r))
   found_near h =
       let a = p_chosen h in
       let s = sixteen in
-      let v : vco ≤ 432000000 = rw (vco_found c m n x y k e) at (best c m n x y k e).good.vco_high in
+      let v : vco ≤ 432000000 = rw (vco_found c r e) at (best c r e).good.vco_high in
       rw (output_by a.0 a.1, pllp_divider _ a.2) (near_vco (wanted_in c) vco a.0.0 s.0 s.1 v a.2 a.3)

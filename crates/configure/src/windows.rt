@@ -1,44 +1,49 @@
 // What is wanted of the main PLL: SYSCLK, and the windows for its P and Q outputs.
-ghost use Rattle.std.specs.Prelude.{◌≡◌, ◌≤◌};
-ghost use Rattle.pll.specs.Outputs.{base_of};
-ghost use Rattle.configure.specs.Configure.{wanted_of, p_window_of, q_window_of};
+ghost use Rattle.std.specs.Prelude.{◌≡◌};
+ghost use Rattle.configure.specs.Configure.{wanted_in, p_window_in, q_window_in, fits_in};
 
-use kinds::{Choice48, Hertz, Request};
-use pll::Window;
+use kinds::{Hertz, PLL48CLK};
+use pll::{Checked, Window};
 
-// The input as planning uses it: cut to a multiple of 16.
-pub(crate) fn base_of(input: Hertz) -> Hertz
-    ensures { result.0 ≡ base_of input.0 }
+#[tactic(auto, unfolding(crate::specs::Configure::wanted_in, crate::specs::Configure::base_in))]
+fn wanted(checked: Checked) -> Hertz
+    ensures { result.0 ≡ wanted_in checked.cfgr }
 {
-    Hertz(input.0 / 16 * 16)
+    checked.cfgr.requests.sysclk.unwrap_or(checked.base())
 }
 
-pub(crate) fn wanted_of(sysclk: Request, base: Hertz) -> Hertz
-    ensures { result.0 ≡ wanted_of sysclk base.0 }
+#[tactic(auto, using(crate::proofs::Configuring::wanted_fits), unfolding(crate::specs::Configure::p_window_in, crate::specs::Configure::p_window_of, crate::specs::Configure::base_in))]
+pub(crate) fn p_window(checked: Checked) -> Option<Window>
+    ensures { result ≡ p_window_in checked.cfgr }
 {
-    match sysclk {
-        Request::Absent => base,
-        Request::At(f) => f,
-    }
-}
-
-pub(crate) fn p_window(wanted: Hertz, base: Hertz) -> Window
-    requires { (1 ≤ wanted.0) × (wanted.0 ≤ 216000000) }
-    ensures { result ≡ p_window_of wanted.0 base.0 }
-{
-    if wanted.0 == base.0 {
-        Window::Absent
+    let wanted = wanted(checked);
+    if wanted == checked.base() {
+        None
     } else {
-        Window::Within(Hertz(wanted.0 - 1), Hertz(wanted.0 + 1))
+        Some(Window {
+            lo: Hertz(wanted.0 - 1),
+            hi: Hertz(wanted.0 + 1),
+        })
     }
 }
 
-pub(crate) fn q_window(choice: Choice48) -> Window
-    ensures { result ≡ q_window_of choice }
+#[tactic(auto, unfolding(crate::specs::Configure::q_window_in))]
+pub(crate) fn q_window(checked: Checked) -> Option<Window>
+    ensures { result ≡ q_window_in checked.cfgr }
 {
-    match choice {
-        Choice48::Absent => Window::Absent,
-        Choice48::Pllq => Window::Within(Hertz(pll::Q_LOW), Hertz(pll::Q_HIGH)),
-        Choice48::Pllsai => Window::Absent,
+    match checked.cfgr.pll.pll48clk {
+        Some(PLL48CLK::Pllq) => Some(Window {
+            lo: Hertz(pll::Q_LOW),
+            hi: Hertz(pll::Q_HIGH),
+        }),
+        Some(PLL48CLK::Pllsai) | None => None,
     }
+}
+
+// Whether the present settings derive what is wanted.
+#[tactic(auto, unfolding(crate::specs::Configure::fits_in))]
+pub(crate) fn fits(checked: Checked) -> bool
+    ensures { result ≡ fits_in checked.cfgr }
+{
+    checked.p_output() == wanted(checked).0 as u64
 }

@@ -1,4 +1,5 @@
 -- The check gives the first in turn of document 01's table, and 0 exactly where every limit is kept: each limit by its range test, joined in the order of turns.
+use Rattle.std.specs.Prelude.{None, Option, Some}
 use Prim.Native.Nat.{ℕ, zero, suc, ◌≤◌, ◌<◌}
 use mathlib.Core.Path.{◌≡◌, refl}
 use mathlib.Core.Logic.{◌⊎◌, inl, inr, ◌↔◌}
@@ -13,9 +14,8 @@ use Rattle.kinds.specs.Turns.{turn_of, First, none, first, OneOf}
 use Rattle.kinds.proofs.Turns.{exactly, given_only, wider}
 use Rattle.kinds.specs.declared.CFGR.{CFGR}
 use Rattle.kinds.specs.declared.HSEClock.{HSEClock}
-use Rattle.kinds.specs.declared.HSEClock.TheVariants.{Absent as NoHse, Oscillator, Bypass}
-use Rattle.kinds.specs.declared.Request.{Request}
-use Rattle.kinds.specs.declared.Request.TheVariants.{Absent as NoRequest, At}
+use Rattle.kinds.specs.declared.HSEClock.TheVariants.{Oscillator, Bypass}
+use Rattle.kinds.specs.declared.Hertz.{Hertz}
 
 -- ---- one limit
 -- what a test of a limit tells: P is that it is kept, Q that it is broken, and k its number
@@ -36,14 +36,14 @@ outside_told lo hi k x = at (leb lo x) (leb x hi) refl refl
     at true false a b = broken (inr (leb-false x hi b)) (λ w. let h = leb-false x hi b in omega (arith, w.high))
     at false t a b = broken (inl (leb-false lo x a)) (λ w. let h = leb-false lo x a in omega (arith, w.low))
 
-hse_told : (h : HSEClock) → Told (HseWithin h) (HseOutside h) 1 (hse_refusal h)
-hse_told NoHse = inside tt (λ o. o)
-hse_told (Oscillator f) = outside_told 4000000 26000000 1 f.0
-hse_told (Bypass f) = outside_told 1000000 50000000 1 f.0
+hse_told : (h : Option HSEClock) → Told (HseWithin h) (HseOutside h) 1 (hse_refusal h)
+hse_told None = inside tt (λ o. o)
+hse_told (Some (Oscillator f)) = outside_told 4000000 26000000 1 f.0
+hse_told (Some (Bypass f)) = outside_told 1000000 50000000 1 f.0
 
-asked_told : (lo hi k : ℕ) (q : Request) → Told (AskedWithin lo hi q) (AskedOutside lo hi q) k (asked_refusal (limited lo hi k) q)
-asked_told lo hi k NoRequest = inside tt (λ o. o)
-asked_told lo hi k (At f) = outside_told lo hi k f.0
+asked_told : (lo hi k : ℕ) (q : Option Hertz) → Told (AskedWithin lo hi q) (AskedOutside lo hi q) k (asked_refusal (limited lo hi k) q)
+asked_told lo hi k None = inside tt (λ o. o)
+asked_told lo hi k (Some f) = outside_told lo hi k f.0
 
 -- a number of 0 tells that the limit is kept, and a limit that is kept gives 0
 zero_told : {P Q : Type 0} {k : ℕ} (a : ℕ) → 0 < k → Told P Q k a → a ≡ 0 → P
@@ -60,10 +60,10 @@ outside_zero lo hi k x pos = zero_told _ pos (outside_told lo hi k x)
 pub zero_outside : (lo hi k x : ℕ) → Between lo hi x → outside_of lo hi k x ≡ 0
 zero_outside lo hi k x = told_zero _ (outside_told lo hi k x)
 
-pub hse_zero : (h : HSEClock) → hse_refusal h ≡ 0 → HseWithin h
+pub hse_zero : (h : Option HSEClock) → hse_refusal h ≡ 0 → HseWithin h
 hse_zero h = zero_told _ (omega arith) (hse_told h)
 
-pub zero_hse : (h : HSEClock) → HseWithin h → hse_refusal h ≡ 0
+pub zero_hse : (h : Option HSEClock) → HseWithin h → hse_refusal h ≡ 0
 zero_hse h = told_zero _ (hse_told h)
 
 -- ---- several limits: P is that all are kept, R n that number n is given, and lo to hi the turns of the numbers that can be
@@ -150,7 +150,7 @@ module _ {P S : Type 0} {R T : ℕ → Type 0} {l m h i : ℕ} (le : m ≤ h) wh
       below p n (inr t) = omega (arith, c.high (suc k) (c.given p), d.low n t)
 
 -- ---- the whole configuration
-covers_asked : (lo hi k : ℕ) → 0 < k → (r : Request) → Covers (AskedWithin lo hi r) (One k (AskedOutside lo hi r)) (turn_of k) (turn_of k) (asked_refusal (limited lo hi k) r)
+covers_asked : (lo hi k : ℕ) → 0 < k → (r : Option Hertz) → Covers (AskedWithin lo hi r) (One k (AskedOutside lo hi r)) (turn_of k) (turn_of k) (asked_refusal (limited lo hi k) r)
 covers_asked lo hi k pos r = one k pos (asked_told lo hi k r)
 
 -- any divider or factor

@@ -1,4 +1,5 @@
 -- Laws that belong to no one function.
 pub mod Turns
-pub mod Joins
+pub mod Numbered
 pub mod Check
+pub mod Decoding

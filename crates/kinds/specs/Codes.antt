@@ -1,8 +1,14 @@
--- Document 01, "Start-up": flags and enums as numbers, in the Rust's order from 0; "Search": P as the divider that it is; a request's
--- hertz.
-use Rattle.std.specs.Prelude.{ℕ, Bool, true, false}
-use Rattle.kinds.specs.declared.Request.{Request}
-use Rattle.kinds.specs.declared.Request.TheVariants.{Absent, At}
+-- Document 01, "Start-up": flags and enums as numbers, in the Rust's order from 0, and what a number is read as; "Search": P as the
+-- divider that it is; a request's hertz.
+use Rattle.std.specs.Prelude.{ℕ, Bool, true, false, Result, MatchResult, ◌≡◌, ◌≢◌, None, Option, Some}
+use Rattle.kinds.specs.declared.Hertz.{Hertz}
+use Rattle.kinds.specs.declared.codes.UnknownCode.{UnknownCode}
+use Rattle.kinds.specs.declared.HSEClockMode.{HSEClockMode}
+use Rattle.kinds.specs.declared.HSEClockMode.TheVariants.{Oscillator, Bypass}
+use Rattle.kinds.specs.declared.LSEClockMode.{LSEClockMode}
+use Rattle.kinds.specs.declared.LSEClockMode.TheVariants.{Oscillator as LseOscillator, Bypass as LseBypass}
+use Rattle.kinds.specs.declared.PLL48CLK.{PLL48CLK}
+use Rattle.kinds.specs.declared.PLL48CLK.TheVariants.{Pllq, Pllsai}
 use Rattle.kinds.specs.declared.PLLP.{PLLP}
 use Rattle.kinds.specs.declared.PLLP.TheVariants.{Div2, Div4, Div6, Div8}
 use Rattle.kinds.specs.declared.MCO1.{MCO1}
@@ -17,9 +23,25 @@ flag_of true = 1
 flag_of false = 0
 
 -- 0 where nothing is asked for
-abbrev pub asked_hertz : Request → ℕ
-asked_hertz Absent = 0
-asked_hertz (At f) = f.0
+abbrev pub asked_hertz : Option Hertz → ℕ
+asked_hertz None = 0
+asked_hertz (Some f) = f.0
+
+-- a number read: the value whose code it is, or an error that holds the number where no value has it
+abbrev pub Decodes : {T : Type 0} → (T → ℕ) → ℕ → Result T UnknownCode → Type 0
+Decodes {T} code n r = MatchResult r (λ x. code x ≡ n) (λ e. (e.0 ≡ n) × ((x : T) → code x ≢ n))
+
+abbrev pub hse_mode_code : HSEClockMode → ℕ
+hse_mode_code Oscillator = 0
+hse_mode_code Bypass = 1
+
+abbrev pub lse_mode_code : LSEClockMode → ℕ
+lse_mode_code LseOscillator = 0
+lse_mode_code LseBypass = 1
+
+abbrev pub pll48clk_code : PLL48CLK → ℕ
+pll48clk_code Pllq = 0
+pll48clk_code Pllsai = 1
 
 abbrev pub pllp_code : PLLP → ℕ
 pllp_code Div2 = 0

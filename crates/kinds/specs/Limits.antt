@@ -1,5 +1,5 @@
 -- Document 01, "Numbers for every refusal", 1 to 6: which number each limit gives, and the check of a configuration.
-use Rattle.std.specs.Prelude.{ℕ, cond, ◌&&◌, leb, eqb}
+use Rattle.std.specs.Prelude.{ℕ, cond, ◌&&◌, leb, eqb, None, Option, Some}
 use Rattle.kinds.specs.declared.CFGR.{CFGR}
 use Rattle.kinds.specs.declared.Requests.{Requests}
 use Rattle.kinds.specs.declared.Pll.{Pll}
@@ -9,19 +9,17 @@ use Rattle.kinds.specs.declared.Divider.{Divider}
 use Rattle.kinds.specs.declared.Factor.{Factor}
 use Rattle.kinds.specs.declared.Hertz.{Hertz}
 use Rattle.kinds.specs.declared.HSEClock.{HSEClock}
-use Rattle.kinds.specs.declared.HSEClock.TheVariants.{Absent as NoHse, Oscillator, Bypass}
-use Rattle.kinds.specs.declared.Request.{Request}
-use Rattle.kinds.specs.declared.Request.TheVariants.{Absent as NoRequest, At}
+use Rattle.kinds.specs.declared.HSEClock.TheVariants.{Oscillator, Bypass}
 
 -- number k where x lies outside lo to hi, both ends inside; else 0
 unfoldable pub outside_of : ℕ → ℕ → ℕ → ℕ → ℕ
 outside_of lo hi k x = cond (leb lo x && leb x hi) 0 k
 
 -- 1: HSE outside 4 to 26 MHz (oscillator) or 1 to 50 MHz (bypass)
-abbrev pub hse_refusal : HSEClock → ℕ
-hse_refusal NoHse = 0
-hse_refusal (Oscillator f) = outside_of 4000000 26000000 1 f.0
-hse_refusal (Bypass f) = outside_of 1000000 50000000 1 f.0
+abbrev pub hse_refusal : Option HSEClock → ℕ
+hse_refusal None = 0
+hse_refusal (Some (Oscillator f)) = outside_of 4000000 26000000 1 f.0
+hse_refusal (Some (Bypass f)) = outside_of 1000000 50000000 1 f.0
 
 -- a frequency outside lo to hi
 abbrev pub limited : ℕ → ℕ → ℕ → Hertz → ℕ
@@ -57,9 +55,9 @@ abbrev pub r_refusal : Divider → ℕ
 r_refusal d = outside_of 2 7 6 d.0
 
 -- a request that isn't there is never refused
-abbrev pub asked_refusal : (Hertz → ℕ) → Request → ℕ
-asked_refusal limit NoRequest = 0
-asked_refusal limit (At f) = limit f
+abbrev pub asked_refusal : (Hertz → ℕ) → Option Hertz → ℕ
+asked_refusal limit None = 0
+asked_refusal limit (Some f) = limit f
 
 -- several at once: the first in turn; the parts below stand in the order of their turns
 unfoldable pub first_refusal : ℕ → ℕ → ℕ

@@ -1,7 +1,9 @@
 -- The Rust's setters: what each hands back, by name and in the Rust's order.
-use Rattle.std.specs.Prelude.{ℕ, true, cond, eqb}
+use Rattle.std.specs.Prelude.{ℕ, true, cond, eqb, Some, Result, Ok, Err}
 use Rattle.kinds.specs.declared.CFGR.{CFGR}
-use Rattle.kinds.specs.declared.Setting.{Setting}
+use Rattle.kinds.specs.declared.refusals.Refusal.{Refusal}
+use Rattle.kinds.specs.declared.Unset.{Unset}
+use Rattle.kinds.specs.Refusals.{number_of, refusal_of}
 use Rattle.kinds.specs.declared.Sources.{Sources}
 use Rattle.kinds.specs.declared.Requests.{Requests}
 use Rattle.kinds.specs.declared.Pll.{Pll}
@@ -16,27 +18,38 @@ use Rattle.kinds.specs.declared.MCO1.{MCO1}
 use Rattle.kinds.specs.declared.MCO2.{MCO2}
 use Rattle.kinds.specs.declared.MCOPRE.{MCOPRE}
 use Rattle.kinds.specs.declared.HSEClock.{HSEClock}
-use Rattle.kinds.specs.declared.HSEClock.TheVariants.{Oscillator as HseOscillator, Bypass as HseBypass}
+use Rattle.kinds.specs.declared.HSEClock.TheVariants.{Oscillator, Bypass}
 use Rattle.kinds.specs.declared.HSEClockMode.{HSEClockMode}
 use Rattle.kinds.specs.declared.HSEClockMode.TheVariants.{Oscillator as ByCrystal, Bypass as ByClock}
-use Rattle.kinds.specs.declared.LSEClock.{LSEClock}
-use Rattle.kinds.specs.declared.LSEClock.TheVariants.{Oscillator as LseOscillator, Bypass as LseBypass}
 use Rattle.kinds.specs.declared.LSEClockMode.{LSEClockMode}
-use Rattle.kinds.specs.declared.LSEClockMode.TheVariants.{Oscillator as LseByCrystal, Bypass as LseByClock}
 use Rattle.kinds.specs.declared.PLL48CLK.{PLL48CLK}
-use Rattle.kinds.specs.declared.PLL48CLK.TheVariants.{Pllq, Pllsai}
-use Rattle.kinds.specs.declared.Choice48.{Choice48}
-use Rattle.kinds.specs.declared.Choice48.TheVariants.{Pllq as FromPllq, Pllsai as FromPllsai}
-use Rattle.kinds.specs.declared.Request.TheVariants.{At}
 use Rattle.kinds.specs.Limits.{hse_refusal, hclk_refusal, sysclk_refusal, pclk1_refusal, pclk2_refusal, m_refusal, n_refusal, q_refusal, r_refusal}
 
--- number n of 1 to 6: n and the configuration c as it came; 0: the configuration d as it was to become
+-- what a setter hands back: a configuration, or its refusal with the configuration as it came
+abbrev pub Setting : Type 0
+Setting = Result CFGR Unset
+
+-- the number of such an answer, 0 where nothing is refused; and the configuration that it hands back in any case
+abbrev pub setting_number : Setting → ℕ
+setting_number (Ok d) = 0
+setting_number (Err r) = number_of r.refusal
+
+abbrev pub handed : Setting → CFGR
+handed (Ok d) = d
+handed (Err r) = r.cfgr
+
+-- number n of 1 to 6: that refusal, and the configuration c as it came; 0: the configuration d as it was to become
 unfoldable pub setting_of : ℕ → CFGR → CFGR → Setting
-setting_of n c d = record { refusal = n; cfgr = cond (eqb n 0) d c }
+setting_of n c d = cond (eqb n 0) (Ok d) (Err (record { refusal = refusal_of n; cfgr = c }))
 
 -- a setter that takes every value
 abbrev pub set : CFGR → Setting
-set d = record { refusal = 0; cfgr = d }
+set d = Ok d
+
+-- a refusal, with the configuration as it came
+abbrev pub held_to : CFGR → Result (Unit {0}) Refusal → Result (Unit {0}) Unset
+held_to c (Ok t) = Ok t
+held_to c (Err k) = Err (record { refusal = k; cfgr = c })
 
 -- a configuration with one group in another's place
 abbrev pub put_sources : CFGR → Sources → CFGR
@@ -59,35 +72,27 @@ put_mco c x = record { sources = c.sources; requests = c.requests; pll = c.pll; 
 
 -- what HSE is with a frequency and a mode
 abbrev pub hse_of : Hertz → HSEClockMode → HSEClock
-hse_of f ByCrystal = HseOscillator f
-hse_of f ByClock = HseBypass f
-
-abbrev pub lse_of : LSEClockMode → LSEClock
-lse_of LseByCrystal = LseOscillator
-lse_of LseByClock = LseBypass
-
-abbrev pub choice_of : PLL48CLK → Choice48
-choice_of Pllq = FromPllq
-choice_of Pllsai = FromPllsai
+hse_of f ByCrystal = Oscillator f
+hse_of f ByClock = Bypass f
 
 -- a configuration with one field in another's place
 abbrev pub with_hse : CFGR → HSEClock → CFGR
-with_hse c x = put_sources c (record { hse = x; lse = c.sources.lse; lsi = c.sources.lsi })
+with_hse c x = put_sources c (record { hse = Some x; lse = c.sources.lse; lsi = c.sources.lsi })
 
 abbrev pub with_hclk : CFGR → Hertz → CFGR
-with_hclk c x = put_requests c (record { hclk = At x; sysclk = c.requests.sysclk; pclk1 = c.requests.pclk1; pclk2 = c.requests.pclk2 })
+with_hclk c x = put_requests c (record { hclk = Some x; sysclk = c.requests.sysclk; pclk1 = c.requests.pclk1; pclk2 = c.requests.pclk2 })
 
 abbrev pub with_sysclk : CFGR → Hertz → CFGR
-with_sysclk c x = put_requests c (record { hclk = c.requests.hclk; sysclk = At x; pclk1 = c.requests.pclk1; pclk2 = c.requests.pclk2 })
+with_sysclk c x = put_requests c (record { hclk = c.requests.hclk; sysclk = Some x; pclk1 = c.requests.pclk1; pclk2 = c.requests.pclk2 })
 
 abbrev pub with_pclk1 : CFGR → Hertz → CFGR
-with_pclk1 c x = put_requests c (record { hclk = c.requests.hclk; sysclk = c.requests.sysclk; pclk1 = At x; pclk2 = c.requests.pclk2 })
+with_pclk1 c x = put_requests c (record { hclk = c.requests.hclk; sysclk = c.requests.sysclk; pclk1 = Some x; pclk2 = c.requests.pclk2 })
 
 abbrev pub with_pclk2 : CFGR → Hertz → CFGR
-with_pclk2 c x = put_requests c (record { hclk = c.requests.hclk; sysclk = c.requests.sysclk; pclk1 = c.requests.pclk1; pclk2 = At x })
+with_pclk2 c x = put_requests c (record { hclk = c.requests.hclk; sysclk = c.requests.sysclk; pclk1 = c.requests.pclk1; pclk2 = Some x })
 
-abbrev pub with_lse : CFGR → LSEClock → CFGR
-with_lse c x = put_sources c (record { hse = c.sources.hse; lse = x; lsi = c.sources.lsi })
+abbrev pub with_lse : CFGR → LSEClockMode → CFGR
+with_lse c x = put_sources c (record { hse = c.sources.hse; lse = Some x; lsi = c.sources.lsi })
 
 abbrev pub with_lsi : CFGR → CFGR
 with_lsi c = put_sources c (record { hse = c.sources.hse; lse = c.sources.lse; lsi = true })
@@ -95,8 +100,8 @@ with_lsi c = put_sources c (record { hse = c.sources.hse; lse = c.sources.lse; l
 abbrev pub with_use_pll : CFGR → CFGR
 with_use_pll c = put_pll c (record { use_pll = true; pll48clk = c.pll.pll48clk; m = c.pll.m; n = c.pll.n; p = c.pll.p; q = c.pll.q })
 
-abbrev pub with_pll48clk : CFGR → Choice48 → CFGR
-with_pll48clk c x = put_pll c (record { use_pll = c.pll.use_pll; pll48clk = x; m = c.pll.m; n = c.pll.n; p = c.pll.p; q = c.pll.q })
+abbrev pub with_pll48clk : CFGR → PLL48CLK → CFGR
+with_pll48clk c x = put_pll c (record { use_pll = c.pll.use_pll; pll48clk = Some x; m = c.pll.m; n = c.pll.n; p = c.pll.p; q = c.pll.q })
 
 abbrev pub with_pllm : CFGR → Divider → CFGR
 with_pllm c x = put_pll c (record { use_pll = c.pll.use_pll; pll48clk = c.pll.pll48clk; m = x; n = c.pll.n; p = c.pll.p; q = c.pll.q })
@@ -149,7 +154,7 @@ with_mco2pre c x = put_mco c (record { mco1 = c.mco.mco1; mco1pre = c.mco.mco1pr
 -- the setters
 
 abbrev pub set_hse : CFGR → Hertz → HSEClockMode → Setting
-set_hse c f mode = setting_of (hse_refusal (hse_of f mode)) c (with_hse c (hse_of f mode))
+set_hse c f mode = setting_of (hse_refusal (Some (hse_of f mode))) c (with_hse c (hse_of f mode))
 
 abbrev pub set_hclk : CFGR → Hertz → Setting
 set_hclk c f = setting_of (hclk_refusal f) c (with_hclk c f)
@@ -164,7 +169,7 @@ abbrev pub set_pclk2 : CFGR → Hertz → Setting
 set_pclk2 c f = setting_of (pclk2_refusal f) c (with_pclk2 c f)
 
 abbrev pub set_lse : CFGR → LSEClockMode → Setting
-set_lse c mode = set (with_lse c (lse_of mode))
+set_lse c mode = set (with_lse c mode)
 
 abbrev pub set_lsi : CFGR → Setting
 set_lsi c = set (with_lsi c)
@@ -173,7 +178,7 @@ abbrev pub set_use_pll : CFGR → Setting
 set_use_pll c = set (with_use_pll c)
 
 abbrev pub set_pll48clk : CFGR → PLL48CLK → Setting
-set_pll48clk c x = set (with_pll48clk c (choice_of x))
+set_pll48clk c x = set (with_pll48clk c x)
 
 abbrev pub set_pllm : CFGR → Divider → Setting
 set_pllm c m = setting_of (m_refusal m) c (with_pllm c m)

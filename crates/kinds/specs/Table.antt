@@ -1,14 +1,13 @@
 -- Document 01's table of refusals, 1 to 6, as facts: when a number is given, which can be, and what a configuration holds that none refuses.
-use Rattle.std.specs.Prelude.{ℕ, ◌≤◌, ◌<◌, ◌⊎◌, List, [], ◌∷◌}
+use Rattle.std.specs.Prelude.{ℕ, ◌≤◌, ◌<◌, ◌⊎◌, List, [], ◌∷◌, None, Option, Some}
 use Rattle.kinds.specs.declared.CFGR.{CFGR}
 use Rattle.kinds.specs.declared.Requests.{Requests}
 use Rattle.kinds.specs.declared.Pll.{Pll}
 use Rattle.kinds.specs.declared.Sai.{Sai}
 use Rattle.kinds.specs.declared.I2s.{I2s}
 use Rattle.kinds.specs.declared.HSEClock.{HSEClock}
-use Rattle.kinds.specs.declared.HSEClock.TheVariants.{Absent as NoHse, Oscillator, Bypass}
-use Rattle.kinds.specs.declared.Request.{Request}
-use Rattle.kinds.specs.declared.Request.TheVariants.{Absent as NoRequest, At}
+use Rattle.kinds.specs.declared.HSEClock.TheVariants.{Oscillator, Bypass}
+use Rattle.kinds.specs.declared.Hertz.{Hertz}
 
 -- x lies in lo to hi, all ends inclusive; or it doesn't
 pub record Between (lo hi x : ℕ) : Type 0 where
@@ -19,24 +18,24 @@ abbrev pub Outside : ℕ → ℕ → ℕ → Type 0
 Outside lo hi x = (x < lo) ⊎ (hi < x)
 
 -- HSE: 4 to 26 MHz (oscillator), 1 to 50 MHz (bypass)
-abbrev pub HseWithin : HSEClock → Type 0
-HseWithin NoHse = Unit {0}
-HseWithin (Oscillator f) = Between 4000000 26000000 f.0
-HseWithin (Bypass f) = Between 1000000 50000000 f.0
+abbrev pub HseWithin : Option HSEClock → Type 0
+HseWithin None = Unit {0}
+HseWithin (Some (Oscillator f)) = Between 4000000 26000000 f.0
+HseWithin (Some (Bypass f)) = Between 1000000 50000000 f.0
 
-abbrev pub HseOutside : HSEClock → Type 0
-HseOutside NoHse = ⊥
-HseOutside (Oscillator f) = Outside 4000000 26000000 f.0
-HseOutside (Bypass f) = Outside 1000000 50000000 f.0
+abbrev pub HseOutside : Option HSEClock → Type 0
+HseOutside None = ⊥
+HseOutside (Some (Oscillator f)) = Outside 4000000 26000000 f.0
+HseOutside (Some (Bypass f)) = Outside 1000000 50000000 f.0
 
 -- a request, where there is one
-abbrev pub AskedWithin : ℕ → ℕ → Request → Type 0
-AskedWithin lo hi NoRequest = Unit {0}
-AskedWithin lo hi (At f) = Between lo hi f.0
+abbrev pub AskedWithin : ℕ → ℕ → Option Hertz → Type 0
+AskedWithin lo hi None = Unit {0}
+AskedWithin lo hi (Some f) = Between lo hi f.0
 
-abbrev pub AskedOutside : ℕ → ℕ → Request → Type 0
-AskedOutside lo hi NoRequest = ⊥
-AskedOutside lo hi (At f) = Outside lo hi f.0
+abbrev pub AskedOutside : ℕ → ℕ → Option Hertz → Type 0
+AskedOutside lo hi None = ⊥
+AskedOutside lo hi (Some f) = Outside lo hi f.0
 
 -- the table: number n is given when
 pub data Refused (c : CFGR) : ℕ → Type 0 where

@@ -4,70 +4,52 @@
 
 pub mod codes;
 pub mod limits;
+mod refusals;
 mod setters;
 
 ghost use Rattle.std.specs.Prelude.{◌≡◌};
 ghost use Rattle.kinds.specs.Config.{defaults, input_of};
+ghost use Rattle.kinds.specs.Setters.{hse_of};
+
+pub use refusals::Refusal;
 
 // A frequency in hertz, a divider and a multiplication factor: none is passed for another.
-#[derive(Clone, Copy)]
+#[derive(Clone, Copy, PartialEq, Eq)]
 pub struct Hertz(pub u32);
 
-#[derive(Clone, Copy)]
+#[derive(Clone, Copy, PartialEq, Eq)]
 pub struct Divider(pub u32);
 
-#[derive(Clone, Copy)]
+#[derive(Clone, Copy, PartialEq, Eq)]
 pub struct Factor(pub u32);
 
-#[derive(Clone, Copy)]
+#[derive(Clone, Copy, PartialEq, Eq)]
 pub enum HSEClockMode {
     Oscillator,
     Bypass,
 }
 
-#[derive(Clone, Copy)]
+#[derive(Clone, Copy, PartialEq, Eq)]
 pub enum HSEClock {
-    Absent,
     Oscillator(Hertz),
     Bypass(Hertz),
 }
 
-#[derive(Clone, Copy)]
+// As HSE's modes, and a type of its own as in the Rust: neither is passed for the other.
+#[derive(Clone, Copy, PartialEq, Eq)]
 pub enum LSEClockMode {
     Oscillator,
     Bypass,
 }
 
-#[derive(Clone, Copy)]
-pub enum LSEClock {
-    Absent,
-    Oscillator,
-    Bypass,
-}
-
-#[derive(Clone, Copy)]
+#[derive(Clone, Copy, PartialEq, Eq)]
 pub enum PLL48CLK {
     Pllq,
     Pllsai,
 }
 
-// The source of the 48 MHz clock, where one is chosen.
-#[derive(Clone, Copy)]
-pub enum Choice48 {
-    Absent,
-    Pllq,
-    Pllsai,
-}
-
-// A frequency that is asked for, or none.
-#[derive(Clone, Copy)]
-pub enum Request {
-    Absent,
-    At(Hertz),
-}
-
 // The P divider of the main PLL and of PLLSAI: one type for what the Rust has twice.
-#[derive(Clone, Copy)]
+#[derive(Clone, Copy, PartialEq, Eq)]
 pub enum PLLP {
     Div2,
     Div4,
@@ -75,7 +57,7 @@ pub enum PLLP {
     Div8,
 }
 
-#[derive(Clone, Copy)]
+#[derive(Clone, Copy, PartialEq, Eq)]
 pub enum MCO1 {
     Hsi,
     Lse,
@@ -83,7 +65,7 @@ pub enum MCO1 {
     Pll,
 }
 
-#[derive(Clone, Copy)]
+#[derive(Clone, Copy, PartialEq, Eq)]
 pub enum MCO2 {
     Sysclk,
     Plli2s,
@@ -91,7 +73,7 @@ pub enum MCO2 {
     Pll,
 }
 
-#[derive(Clone, Copy)]
+#[derive(Clone, Copy, PartialEq, Eq)]
 pub enum MCOPRE {
     Div1,
     Div2,
@@ -100,32 +82,33 @@ pub enum MCOPRE {
     Div5,
 }
 
-#[derive(Clone, Copy)]
+#[derive(Clone, Copy, PartialEq, Eq)]
 pub struct Sources {
-    pub hse: HSEClock,
-    pub lse: LSEClock,
+    pub hse: Option<HSEClock>,
+    pub lse: Option<LSEClockMode>,
     pub lsi: bool,
 }
 
-#[derive(Clone, Copy)]
+#[derive(Clone, Copy, PartialEq, Eq)]
 pub struct Requests {
-    pub hclk: Request,
-    pub sysclk: Request,
-    pub pclk1: Request,
-    pub pclk2: Request,
+    pub hclk: Option<Hertz>,
+    pub sysclk: Option<Hertz>,
+    pub pclk1: Option<Hertz>,
+    pub pclk2: Option<Hertz>,
 }
 
-#[derive(Clone, Copy)]
+// The flag of each PLL stands beside its settings: `check_of` holds these to their limits where it is off too.
+#[derive(Clone, Copy, PartialEq, Eq)]
 pub struct Pll {
     pub use_pll: bool,
-    pub pll48clk: Choice48,
+    pub pll48clk: Option<PLL48CLK>,
     pub m: Divider,
     pub n: Factor,
     pub p: PLLP,
     pub q: Divider,
 }
 
-#[derive(Clone, Copy)]
+#[derive(Clone, Copy, PartialEq, Eq)]
 pub struct Sai {
     pub use_pllsai: bool,
     pub n: Factor,
@@ -133,7 +116,7 @@ pub struct Sai {
     pub q: Divider,
 }
 
-#[derive(Clone, Copy)]
+#[derive(Clone, Copy, PartialEq, Eq)]
 pub struct I2s {
     pub use_plli2s: bool,
     pub n: Factor,
@@ -141,7 +124,7 @@ pub struct I2s {
     pub q: Divider,
 }
 
-#[derive(Clone, Copy)]
+#[derive(Clone, Copy, PartialEq, Eq)]
 pub struct Mco {
     pub mco1: MCO1,
     pub mco1pre: MCOPRE,
@@ -150,7 +133,7 @@ pub struct Mco {
 }
 
 // The configuration, by groups.
-#[derive(Clone, Copy)]
+#[derive(Clone, Copy, PartialEq, Eq)]
 pub struct CFGR {
     pub sources: Sources,
     pub requests: Requests,
@@ -160,21 +143,21 @@ pub struct CFGR {
     pub mco: Mco,
 }
 
-// What a setter hands back: 0 and the new configuration, or a refusal and the configuration as it came.
-#[derive(Clone, Copy)]
-pub struct Setting {
-    pub refusal: u8,
+// Why a setter refused, and the configuration as it came.
+#[derive(Clone, Copy, PartialEq, Eq)]
+pub struct Unset {
+    pub refusal: Refusal,
     pub cfgr: CFGR,
 }
 
-fn no_requests() -> Requests
-    ensures { result ≡ defaults.requests }
-{
-    Requests {
-        hclk: Request::Absent,
-        sysclk: Request::Absent,
-        pclk1: Request::Absent,
-        pclk2: Request::Absent,
+impl HSEClock {
+    pub fn new(freq: Hertz, mode: HSEClockMode) -> HSEClock
+        ensures { result ≡ hse_of freq mode }
+    {
+        match mode {
+            HSEClockMode::Oscillator => HSEClock::Oscillator(freq),
+            HSEClockMode::Bypass => HSEClock::Bypass(freq),
+        }
     }
 }
 
@@ -185,14 +168,19 @@ impl CFGR {
     {
         CFGR {
             sources: Sources {
-                hse: HSEClock::Absent,
-                lse: LSEClock::Absent,
+                hse: None,
+                lse: None,
                 lsi: false,
             },
-            requests: no_requests(),
+            requests: Requests {
+                hclk: None,
+                sysclk: None,
+                pclk1: None,
+                pclk2: None,
+            },
             pll: Pll {
                 use_pll: false,
-                pll48clk: Choice48::Absent,
+                pll48clk: None,
                 m: Divider(2),
                 n: Factor(50),
                 p: PLLP::Div2,
@@ -220,13 +208,13 @@ impl CFGR {
     }
 }
 
-// The input of the PLLs: HSE if given, else HSI, 16 MHz.
-pub fn input_of(hse: HSEClock) -> Hertz
+// The input of the PLLs: HSE if given, else HSI, 16 MHz. By its cases, as in clocks and numbers, which answer each something else.
+#[tactic(auto, unfolding(crate::specs::Config::input_of))]
+pub fn input_of(hse: Option<HSEClock>) -> Hertz
     ensures { result.0 ≡ input_of hse }
 {
     match hse {
-        HSEClock::Absent => Hertz(16000000),
-        HSEClock::Oscillator(f) => f,
-        HSEClock::Bypass(f) => f,
+        None => Hertz(16000000),
+        Some(HSEClock::Oscillator(f) | HSEClock::Bypass(f)) => f,
     }
 }

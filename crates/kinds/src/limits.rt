@@ -1,100 +1,128 @@
 // Document 01, "Numbers for every refusal": the limits behind 1 to 6, and the check of a whole configuration.
 ghost use Rattle.std.specs.Prelude.{◌≡◌};
 ghost use Rattle.kinds.specs.Limits as spec;
+ghost use Rattle.kinds.specs.Refusals.{number_of, unless};
 
-use super::{CFGR, HSEClock, I2s, Pll, Request, Requests, Sai};
+use super::{CFGR, Divider, Factor, HSEClock, Hertz, I2s, Pll, Refusal, Requests, Sai};
 
-// The refusal k where x lies outside lo to hi, else 0: the one range test of every limit from 1 to 6, and of a poll limit.
-pub fn outside(lo: u32, hi: u32, k: u8, x: u32) -> u8
-    ensures { result ≡ spec.outside_of lo hi k x }
+// The range test of every limit of a configuration, of those of 9 to 11, and of a poll limit: ends and refusal, a line of document 01's.
+#[tactic(auto, using(crate::proofs::Numbered::below, crate::proofs::Numbered::above, crate::proofs::Numbered::inside))]
+pub fn within(lo: u64, hi: u64, refusal: Refusal, x: u64) -> Result<(), Refusal>
+    ensures { result ≡ unless (spec.outside_of lo hi (number_of refusal) x) tt }
 {
     if x < lo {
-        k
+        Err(refusal)
     } else if hi < x {
-        k
+        Err(refusal)
     } else {
-        0
+        Ok(())
     }
 }
 
-// The first of two numbers that is a refusal.
-#[tactic(auto, unfolding(crate::specs::Limits::first_refusal))]
-pub fn first_of(a: u8, b: u8) -> u8
-    ensures { result ≡ spec.first_refusal a b }
-{
-    if a == 0 { b } else { a }
-}
-
-pub(crate) fn hse_refusal(hse: HSEClock) -> u8
-    ensures { result ≡ spec.hse_refusal hse }
+#[tactic(auto, unfolding(crate::specs::Refusals::unless))]
+pub(crate) fn check_hse(hse: Option<HSEClock>) -> Result<(), Refusal>
+    ensures { result ≡ unless (spec.hse_refusal hse) tt }
 {
     match hse {
-        HSEClock::Absent => 0,
-        HSEClock::Oscillator(f) => outside(4000000, 26000000, 1, f.0),
-        HSEClock::Bypass(f) => outside(1000000, 50000000, 1, f.0),
+        None => Ok(()),
+        Some(HSEClock::Oscillator(f)) => within(4000000, 26000000, Refusal::Hse, f.0 as u64),
+        Some(HSEClock::Bypass(f)) => within(1000000, 50000000, Refusal::Hse, f.0 as u64),
     }
 }
 
-// A request outside lo to hi is refused with k.
-fn asked_refusal(lo: u32, hi: u32, k: u8, q: Request) -> u8
-    ensures { result ≡ spec.asked_refusal (spec.limited lo hi k) q }
+// A request outside lo to hi is refused.
+#[tactic(auto, unfolding(crate::specs::Refusals::unless))]
+fn check_asked(lo: u64, hi: u64, refusal: Refusal, asked: Option<Hertz>) -> Result<(), Refusal>
+    ensures { result ≡ unless (spec.asked_refusal (spec.limited lo hi (number_of refusal)) asked) tt }
 {
-    match q {
-        Request::Absent => 0,
-        Request::At(f) => outside(lo, hi, k, f.0),
+    match asked {
+        None => Ok(()),
+        Some(f) => within(lo, hi, refusal, f.0 as u64),
     }
 }
 
-fn requests_refusal(q: Requests) -> u8
-    ensures { result ≡ spec.requests_refusal q }
+// M of 2 to 63.
+pub(crate) fn check_m(m: Divider) -> Result<(), Refusal>
+    ensures { result ≡ unless (spec.m_refusal m) tt }
 {
-    let hclk = q.hclk;
-    let sysclk = q.sysclk;
-    let pclk1 = q.pclk1;
-    let pclk2 = q.pclk2;
-    let a = asked_refusal(0, 216000000, 2, hclk);
-    let b = asked_refusal(12500000, 216000000, 3, sysclk);
-    let c = asked_refusal(12500000, 54000000, 4, pclk1);
-    let d = asked_refusal(12500000, 108000000, 5, pclk2);
-    first_of(a, first_of(b, first_of(c, d)))
+    within(2, 63, Refusal::Settings, m.0 as u64)
 }
 
-fn pll_refusal(p: Pll) -> u8
-    ensures { result ≡ spec.pll_refusal p }
+// Any N of 50 to 432.
+pub(crate) fn check_n(n: Factor) -> Result<(), Refusal>
+    ensures { result ≡ unless (spec.n_refusal n) tt }
 {
-    first_of(
-        outside(2, 63, 6, p.m.0),
-        first_of(outside(50, 432, 6, p.n.0), outside(2, 15, 6, p.q.0)),
-    )
+    within(50, 432, Refusal::Settings, n.0 as u64)
 }
 
-fn sai_refusal(s: Sai) -> u8
-    ensures { result ≡ spec.sai_refusal s }
+// Any Q of 2 to 15.
+pub(crate) fn check_q(q: Divider) -> Result<(), Refusal>
+    ensures { result ≡ unless (spec.q_refusal q) tt }
 {
-    first_of(outside(50, 432, 6, s.n.0), outside(2, 15, 6, s.q.0))
+    within(2, 15, Refusal::Settings, q.0 as u64)
 }
 
-fn i2s_refusal(i: I2s) -> u8
-    ensures { result ≡ spec.i2s_refusal i }
+// PLLI2S R of 2 to 7.
+pub(crate) fn check_r(r: Divider) -> Result<(), Refusal>
+    ensures { result ≡ unless (spec.r_refusal r) tt }
 {
-    first_of(
-        outside(50, 432, 6, i.n.0),
-        first_of(outside(2, 7, 6, i.r.0), outside(2, 15, 6, i.q.0)),
-    )
+    within(2, 7, Refusal::Settings, r.0 as u64)
+}
+
+impl Requests {
+    #[tactic(auto, unfolding(crate::specs::Refusals::unless, crate::specs::Limits::first_refusal))]
+    fn check(self) -> Result<(), Refusal>
+        ensures { result ≡ unless (spec.requests_refusal self) tt }
+    {
+        check_asked(0, 216000000, Refusal::Hclk, self.hclk)?;
+        check_asked(12500000, 216000000, Refusal::Sysclk, self.sysclk)?;
+        check_asked(12500000, 54000000, Refusal::Pclk1, self.pclk1)?;
+        check_asked(12500000, 108000000, Refusal::Pclk2, self.pclk2)
+    }
+}
+
+impl Pll {
+    #[tactic(auto, unfolding(crate::specs::Refusals::unless, crate::specs::Limits::first_refusal))]
+    fn check(self) -> Result<(), Refusal>
+        ensures { result ≡ unless (spec.pll_refusal self) tt }
+    {
+        check_m(self.m)?;
+        check_n(self.n)?;
+        check_q(self.q)
+    }
+}
+
+impl Sai {
+    #[tactic(auto, unfolding(crate::specs::Refusals::unless, crate::specs::Limits::first_refusal))]
+    fn check(self) -> Result<(), Refusal>
+        ensures { result ≡ unless (spec.sai_refusal self) tt }
+    {
+        check_n(self.n)?;
+        check_q(self.q)
+    }
+}
+
+impl I2s {
+    #[tactic(auto, unfolding(crate::specs::Refusals::unless, crate::specs::Limits::first_refusal))]
+    fn check(self) -> Result<(), Refusal>
+        ensures { result ≡ unless (spec.i2s_refusal self) tt }
+    {
+        check_n(self.n)?;
+        check_r(self.r)?;
+        check_q(self.q)
+    }
 }
 
 impl CFGR {
-    // The first in turn of 1 to 6 that the configuration is refused with, or 0.
-    pub fn check(self) -> u8
-        ensures { result ≡ spec.check_of self }
+    // Refused with the first in turn of 1 to 6 that is given.
+    #[tactic(auto, unfolding(crate::specs::Limits::check_of, crate::specs::Refusals::unless, crate::specs::Limits::first_refusal))]
+    pub fn check(self) -> Result<(), Refusal>
+        ensures { result ≡ unless (spec.check_of self) tt }
     {
-        let s = self.sources;
-        let hse = s.hse;
-        let q = self.requests;
-        let p = self.pll;
-        let a = self.sai;
-        let i = self.i2s;
-        let plls = first_of(pll_refusal(p), first_of(sai_refusal(a), i2s_refusal(i)));
-        first_of(hse_refusal(hse), first_of(requests_refusal(q), plls))
+        check_hse(self.sources.hse)?;
+        self.requests.check()?;
+        self.pll.check()?;
+        self.sai.check()?;
+        self.i2s.check()
     }
 }

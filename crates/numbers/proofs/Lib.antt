@@ -1,4 +1,2 @@
 -- Laws that belong to no one function.
-pub mod Lists
-pub mod Planning
 pub mod Sizes

@@ -2,8 +2,10 @@
 use mathlib.Core.Path.{◌≡◌, refl}
 use lib.ListN.{length}
 use Rattle.kinds.specs.declared.CFGR.{CFGR}
-use Rattle.pll.specs.declared.Found.{Found}
-use Rattle.pll.specs.declared.Found.TheVariants.{Pair, BadInput, Nothing}
+use Rattle.std.specs.Prelude.{Result, Ok, Err}
+use Rattle.pll.specs.declared.Pair.{Pair}
+use Rattle.pll.specs.declared.Miss.{Miss}
+use Rattle.pll.specs.declared.Miss.TheVariants.{BadInput, Nothing}
 use Rattle.clocks.specs.declared.Clocks.{Clocks}
 use Rattle.clocks.specs.declared.InternalRCCConfig.{InternalRCCConfig}
 use Rattle.numbers.specs.Numbers.{CONFIG, config_numbers}
@@ -18,7 +20,7 @@ pub clocks_many : (x : Clocks) (y : InternalRCCConfig) → length (clock_numbers
 unfolding clock_numbers
 clocks_many x y = refl
 
-pub search_many : (f : Found) → length (found_numbers f) ≡ SEARCH
-search_many (Pair m n p q k) = refl
-search_many BadInput = refl
-search_many (Nothing k) = refl
+pub search_many : (f : Result Pair Miss) → length (found_numbers f) ≡ SEARCH
+search_many (Ok r) = refl
+search_many (Err BadInput) = refl
+search_many (Err (Nothing k)) = refl

@@ -1,43 +1,42 @@
 -- A configuration as 30 numbers, group by group.
-use Rattle.std.specs.Prelude.{ℕ, List, [], ◌∷◌}
+use Rattle.std.specs.Prelude.{ℕ, List, [], ◌∷◌, None, Option, Some}
 use Rattle.kinds.specs.Codes.{flag_of, asked_hertz, pllp_code, mco1_code, mco2_code, mcopre_code}
 use Rattle.kinds.specs.declared.CFGR.{CFGR}
 use Rattle.kinds.specs.declared.HSEClock.{HSEClock}
-use Rattle.kinds.specs.declared.HSEClock.TheVariants.{Absent, Oscillator, Bypass}
-use Rattle.kinds.specs.declared.LSEClock.{LSEClock}
-use Rattle.kinds.specs.declared.LSEClock.TheVariants.{Absent as NoLse, Oscillator as LseOscillator, Bypass as LseBypass}
-use Rattle.kinds.specs.declared.Choice48.{Choice48}
-use Rattle.kinds.specs.declared.Choice48.TheVariants.{Absent as NoChoice, Pllq, Pllsai}
-use Rattle.kinds.specs.declared.Request.{Request}
-use Rattle.kinds.specs.declared.Request.TheVariants.{Absent as NoRequest, At}
+use Rattle.kinds.specs.declared.HSEClock.TheVariants.{Oscillator, Bypass}
+use Rattle.kinds.specs.declared.LSEClockMode.{LSEClockMode}
+use Rattle.kinds.specs.declared.LSEClockMode.TheVariants.{Oscillator as LseOscillator, Bypass as LseBypass}
+use Rattle.kinds.specs.declared.PLL48CLK.{PLL48CLK}
+use Rattle.kinds.specs.declared.PLL48CLK.TheVariants.{Pllq, Pllsai}
+use Rattle.kinds.specs.declared.Hertz.{Hertz}
 
 -- how many numbers a configuration is
 abbrev pub CONFIG : ℕ
 CONFIG = 30
 
-abbrev pub hse_kind : HSEClock → ℕ
-hse_kind Absent = 0
-hse_kind (Oscillator f) = 1
-hse_kind (Bypass f) = 2
+abbrev pub hse_kind : Option HSEClock → ℕ
+hse_kind None = 0
+hse_kind (Some (Oscillator f)) = 1
+hse_kind (Some (Bypass f)) = 2
 
-abbrev pub hse_hertz : HSEClock → ℕ
-hse_hertz Absent = 0
-hse_hertz (Oscillator f) = f.0
-hse_hertz (Bypass f) = f.0
+abbrev pub hse_hertz : Option HSEClock → ℕ
+hse_hertz None = 0
+hse_hertz (Some (Oscillator f)) = f.0
+hse_hertz (Some (Bypass f)) = f.0
 
-abbrev pub lse_kind : LSEClock → ℕ
-lse_kind NoLse = 0
-lse_kind LseOscillator = 1
-lse_kind LseBypass = 2
+abbrev pub lse_kind : Option LSEClockMode → ℕ
+lse_kind None = 0
+lse_kind (Some LseOscillator) = 1
+lse_kind (Some LseBypass) = 2
 
-abbrev pub asked_of : Request → ℕ
-asked_of NoRequest = 0
-asked_of (At f) = 1
+abbrev pub asked_of : Option Hertz → ℕ
+asked_of None = 0
+asked_of (Some f) = 1
 
-abbrev pub choice_kind : Choice48 → ℕ
-choice_kind NoChoice = 0
-choice_kind Pllq = 1
-choice_kind Pllsai = 2
+abbrev pub choice_kind : Option PLL48CLK → ℕ
+choice_kind None = 0
+choice_kind (Some Pllq) = 1
+choice_kind (Some Pllsai) = 2
 
 unfoldable pub config_numbers : CFGR → List ℕ
 config_numbers c =

@@ -1,13 +1,13 @@
 -- What pll_configure, calculate_clocks and plan answer as numbers, and what the lent numbers hold then.
-use Rattle.std.specs.Prelude.{ℕ, ◌≡◌, List, [], ◌∷◌}
+use Rattle.std.specs.Prelude.{ℕ, ◌≡◌, List, [], ◌∷◌, Result, Ok, Err}
 use Rattle.configure.specs.declared.Configured.{Configured}
-use Rattle.configure.specs.declared.Configured.TheVariants.{Refused as NotConfigured, Ready as Configured'}
+use Rattle.configure.specs.declared.Unplanned.{Unplanned}
 use Rattle.clocks.specs.declared.Clocks.{Clocks}
 use Rattle.clocks.specs.declared.InternalRCCConfig.{InternalRCCConfig}
 use Rattle.clocks.specs.declared.Derived.{Derived}
-use Rattle.clocks.specs.declared.Derived.TheVariants.{Refused as NotDerived, At}
 use Rattle.plan.specs.declared.Planned.{Planned}
-use Rattle.plan.specs.declared.Planned.TheVariants.{Refused as NotPlanned, Ready as Planned'}
+use Rattle.kinds.specs.declared.refusals.Refusal.{Refusal}
+use Rattle.kinds.specs.Refusals.{number_of}
 use Rattle.kinds.specs.Codes.{flag_of, asked_hertz}
 use Rattle.numbers.specs.Numbers.{config_numbers}
 
@@ -37,9 +37,9 @@ pub record Plans (y : PlanReply) (r : ℕ) (config clocks : List ℕ) (passes : 
   pub passes_hold : passes ≡ y.passes
 
 -- refused, the lent numbers are as they came; the passes are those of the search wherever one ran
-abbrev pub planned_reply : Planned → List ℕ → List ℕ → PlanReply
-planned_reply (NotPlanned n k) config clocks = record { number = n; config = config; clocks = clocks; passes = k }
-planned_reply (Planned' c k x y) config clocks = record { number = 0; config = config_numbers c; clocks = clock_numbers x y; passes = k }
+abbrev pub planned_reply : Result Planned Unplanned → List ℕ → List ℕ → PlanReply
+planned_reply (Err u) config clocks = record { number = number_of u.refusal; config = config; clocks = clocks; passes = u.passes }
+planned_reply (Ok p) config clocks = record { number = 0; config = config_numbers p.cfgr; clocks = clock_numbers p.derived.clocks p.derived.config; passes = p.passes }
 
 -- pll_configure has no clocks, calculate_clocks neither a configuration nor passes
 pub record Configures (y : PlanReply) (r : ℕ) (config : List ℕ) (passes : ℕ) : Type 0 where
@@ -47,14 +47,14 @@ pub record Configures (y : PlanReply) (r : ℕ) (config : List ℕ) (passes : �
   pub config_holds : config ≡ y.config
   pub passes_hold : passes ≡ y.passes
 
-abbrev pub configured_reply : Configured → List ℕ → PlanReply
-configured_reply (NotConfigured n k) config = record { number = n; config = config; clocks = []; passes = k }
-configured_reply (Configured' c k) config = record { number = 0; config = config_numbers c; clocks = []; passes = k }
+abbrev pub configured_reply : Result Configured Unplanned → List ℕ → PlanReply
+configured_reply (Err u) config = record { number = number_of u.refusal; config = config; clocks = []; passes = u.passes }
+configured_reply (Ok r) config = record { number = 0; config = config_numbers r.cfgr; clocks = []; passes = r.passes }
 
 pub record Derives (y : PlanReply) (r : ℕ) (clocks : List ℕ) : Type 0 where
   pub answer : r ≡ y.number
   pub clocks_hold : clocks ≡ y.clocks
 
-abbrev pub derived_reply : Derived → List ℕ → PlanReply
-derived_reply (NotDerived n) clocks = record { number = n; config = []; clocks = clocks; passes = 0 }
-derived_reply (At x y) clocks = record { number = 0; config = []; clocks = clock_numbers x y; passes = 0 }
+abbrev pub derived_reply : Result Derived Refusal → List ℕ → PlanReply
+derived_reply (Err r) clocks = record { number = number_of r; config = []; clocks = clocks; passes = 0 }
+derived_reply (Ok d) clocks = record { number = 0; config = []; clocks = clock_numbers d.clocks d.config; passes = 0 }

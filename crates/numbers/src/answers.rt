@@ -4,52 +4,43 @@ ghost use Rattle.pll.specs.Numbers.{number_of};
 ghost use Rattle.numbers.specs.Answers as spec;
 
 use super::SEARCH;
-use kinds::Hertz;
-use pll::{Found, Sought, Window};
+use kinds::{Divider, Hertz, Refusal};
+use pll::{Miss, Pair, Window};
 
-// A window is looked at only where its flag is set.
-pub fn window(present: bool, low: u32, high: u32) -> Window
+// A window by a flag, as C gives it: looked at only where the flag is set.
+pub fn window(present: bool, low: u32, high: u32) -> Option<Window>
     ensures { result ≡ spec.window_of present low high }
 {
-    if present {
-        Window::Within(Hertz(low), Hertz(high))
-    } else {
-        Window::Absent
-    }
+    present.then_some(Window {
+        lo: Hertz(low),
+        hi: Hertz(high),
+    })
 }
 
-fn divider(s: Sought) -> u32
+fn divider(s: Option<Divider>) -> u32
     ensures { result ≡ spec.divider_of s }
 {
-    match s {
-        Sought::Unasked => 0,
-        Sought::By(d) => d.0,
-    }
+    s.map_or(0, |d| d.0)
 }
 
-pub fn number_of(found: Found) -> u32
+// 0 or the refusal's number, as C gets it.
+pub fn number_of(found: Result<Pair, Miss>) -> u32
     ensures { result ≡ number_of found }
 {
     match found {
-        Found::Pair {
-            m: _,
-            n: _,
-            p: _,
-            q: _,
-            passes: _,
-        } => 0,
-        Found::BadInput => 1,
-        Found::Nothing { passes: _ } => 7,
+        Ok(_) => 0,
+        Err(Miss::BadInput) => u32::from(Refusal::Hse),
+        Err(Miss::Nothing { .. }) => u32::from(Refusal::NoPair),
     }
 }
 
 // Passes, M, N, P, Q: zeros where there is none.
-pub fn found_numbers(found: Found) -> [u32; SEARCH]
+pub fn found_numbers(found: Result<Pair, Miss>) -> [u32; SEARCH]
     ensures { result ≡ spec.found_numbers found }
 {
     match found {
-        Found::Pair { m, n, p, q, passes } => [passes, m.0, n.0, divider(p), divider(q)],
-        Found::BadInput => [0, 0, 0, 0, 0],
-        Found::Nothing { passes } => [passes, 0, 0, 0, 0],
+        Ok(Pair { m, n, p, q, passes }) => [passes, m.0, n.0, divider(p), divider(q)],
+        Err(Miss::BadInput) => [0, 0, 0, 0, 0],
+        Err(Miss::Nothing { passes }) => [passes, 0, 0, 0, 0],
     }
 }

@@ -5,11 +5,10 @@ pub mod answers;
 pub mod plans;
 
 ghost use Rattle.std.specs.Prelude.{◌≡◌};
-ghost use Rattle.kinds.specs.Codes.{flag_of, asked_hertz};
+ghost use Rattle.kinds.specs.Codes.{asked_hertz};
 ghost use Rattle.numbers.specs.Numbers as spec;
 
-use kinds::codes::{mco1_code, mco2_code, mcopre_code, pllp_code};
-use kinds::{CFGR, Choice48, HSEClock, LSEClock, Request};
+use kinds::{CFGR, HSEClock, Hertz, LSEClockMode, PLL48CLK};
 
 // How many numbers a configuration is, clocks with their field codes, and an answer of the search.
 pub const CONFIG: usize = 30;
@@ -18,122 +17,101 @@ pub const CLOCKS: usize = 16;
 
 pub const SEARCH: usize = 5;
 
-pub(crate) fn flag(on: bool) -> u32
-    ensures { result ≡ flag_of on }
-{
-    if on { 1 } else { 0 }
-}
-
-fn hse_kind(hse: HSEClock) -> u32
+// Kinds and choices by number, 0 for none: C reads them so. Each by its cases: a sum with the code would want its bound shown.
+fn hse_kind(hse: Option<HSEClock>) -> u32
     ensures { result ≡ spec.hse_kind hse }
 {
     match hse {
-        HSEClock::Absent => 0,
-        HSEClock::Oscillator(_) => 1,
-        HSEClock::Bypass(_) => 2,
+        None => 0,
+        Some(HSEClock::Oscillator(_)) => 1,
+        Some(HSEClock::Bypass(_)) => 2,
     }
 }
 
-fn hse_hertz(hse: HSEClock) -> u32
+// By its cases, as its definition has it.
+fn hse_hertz(hse: Option<HSEClock>) -> u32
     ensures { result ≡ spec.hse_hertz hse }
 {
     match hse {
-        HSEClock::Absent => 0,
-        HSEClock::Oscillator(f) => f.0,
-        HSEClock::Bypass(f) => f.0,
+        None => 0,
+        Some(HSEClock::Oscillator(f) | HSEClock::Bypass(f)) => f.0,
     }
 }
 
-fn lse_kind(lse: LSEClock) -> u32
+fn lse_kind(lse: Option<LSEClockMode>) -> u32
     ensures { result ≡ spec.lse_kind lse }
 {
     match lse {
-        LSEClock::Absent => 0,
-        LSEClock::Oscillator => 1,
-        LSEClock::Bypass => 2,
+        None => 0,
+        Some(LSEClockMode::Oscillator) => 1,
+        Some(LSEClockMode::Bypass) => 2,
     }
 }
 
-fn asked(q: Request) -> u32
+fn asked(q: Option<Hertz>) -> u32
     ensures { result ≡ spec.asked_of q }
 {
-    match q {
-        Request::Absent => 0,
-        Request::At(_) => 1,
-    }
+    u32::from(q.is_some())
 }
 
-pub(crate) fn asked_hertz(q: Request) -> u32
+pub(crate) fn asked_hertz(q: Option<Hertz>) -> u32
     ensures { result ≡ asked_hertz q }
 {
-    match q {
-        Request::Absent => 0,
-        Request::At(f) => f.0,
-    }
+    q.map_or(0, |f| f.0)
 }
 
-fn choice(k: Choice48) -> u32
+fn choice(k: Option<PLL48CLK>) -> u32
     ensures { result ≡ spec.choice_kind k }
 {
     match k {
-        Choice48::Absent => 0,
-        Choice48::Pllq => 1,
-        Choice48::Pllsai => 2,
+        None => 0,
+        Some(PLL48CLK::Pllq) => 1,
+        Some(PLL48CLK::Pllsai) => 2,
     }
 }
 
+#[tactic(auto, unfolding(crate::specs::Numbers::config_numbers))]
 pub fn config_numbers(c: CFGR) -> [u32; CONFIG]
     ensures { result ≡ spec.config_numbers c }
 {
-    let s = c.sources;
-    let hse = s.hse;
-    let lse = s.lse;
-    let q = c.requests;
-    let hclk = q.hclk;
-    let sysclk = q.sysclk;
-    let pclk1 = q.pclk1;
-    let pclk2 = q.pclk2;
-    let pll = c.pll;
-    let k = pll.pll48clk;
-    let p = pll.p;
-    let sai = c.sai;
-    let sai_p = sai.p;
-    let i2s = c.i2s;
-    let mco = c.mco;
-    let mco1 = mco.mco1;
-    let mco1pre = mco.mco1pre;
-    let mco2 = mco.mco2;
-    let mco2pre = mco.mco2pre;
+    let CFGR {
+        sources,
+        requests,
+        pll,
+        sai,
+        i2s,
+        mco,
+    } = c;
     [
-        hse_kind(hse),
-        hse_hertz(hse),
-        lse_kind(lse),
-        flag(s.lsi),
-        asked(hclk),
-        asked_hertz(hclk),
-        asked(sysclk),
-        asked_hertz(sysclk),
-        asked(pclk1),
-        asked_hertz(pclk1),
-        asked(pclk2),
-        asked_hertz(pclk2),
-        flag(pll.use_pll),
-        choice(k),
+        hse_kind(sources.hse),
+        hse_hertz(sources.hse),
+        lse_kind(sources.lse),
+        u32::from(sources.lsi),
+        asked(requests.hclk),
+        asked_hertz(requests.hclk),
+        asked(requests.sysclk),
+        asked_hertz(requests.sysclk),
+        asked(requests.pclk1),
+        asked_hertz(requests.pclk1),
+        asked(requests.pclk2),
+        asked_hertz(requests.pclk2),
+        u32::from(pll.use_pll),
+        choice(pll.pll48clk),
         pll.m.0,
         pll.n.0,
-        pllp_code(p),
+        u32::from(pll.p),
         pll.q.0,
-        flag(sai.use_pllsai),
+        u32::from(sai.use_pllsai),
         sai.n.0,
-        pllp_code(sai_p),
+        u32::from(sai.p),
         sai.q.0,
-        flag(i2s.use_plli2s),
+        u32::from(i2s.use_plli2s),
         i2s.n.0,
         i2s.r.0,
         i2s.q.0,
-        mco1_code(mco1),
-        mcopre_code(mco1pre),
-        mco2_code(mco2),
-        mcopre_code(mco2pre),
+        u32::from(mco.mco1),
+        u32::from(mco.mco1pre),
+        u32::from(mco.mco2),
+        u32::from(mco.mco2pre),
     ]
 }

@@ -1,4 +1,5 @@
 -- A file at the plan's values reads back to the plan's clocks: each code read is the divider that it was chosen for, case by case.
+use Rattle.std.specs.Prelude.{None, Option, Some}
 use Prim.Native.Nat.{ℕ, ◌+◌, ◌*◌, ◌/◌}
 use mathlib.Core.Path.{◌≡◌, refl, ap, sym, ◌∙◌}
 use mathlib.Core.Bool.{Bool, true, false, cond}
@@ -9,9 +10,9 @@ use Rattle.kinds.specs.Config.{input_of}
 use Rattle.kinds.specs.Codes.{asked_hertz, pllp_code, p_divider_of}
 use Rattle.kinds.specs.declared.CFGR.{CFGR}
 use Rattle.kinds.specs.declared.Pll.{Pll}
-use Rattle.kinds.specs.declared.Request.{Request}
+use Rattle.kinds.specs.declared.Hertz.{Hertz}
 use Rattle.kinds.specs.declared.HSEClock.{HSEClock}
-use Rattle.kinds.specs.declared.HSEClock.TheVariants.{Absent, Oscillator, Bypass}
+use Rattle.kinds.specs.declared.HSEClock.TheVariants.{Oscillator, Bypass}
 use Rattle.kinds.specs.declared.PLLP.{PLLP}
 use Rattle.kinds.specs.declared.PLLP.TheVariants.{Div2, Div4, Div6, Div8}
 use Rattle.pll.specs.Outputs.{base_of, p_output_of}
@@ -61,15 +62,15 @@ ppre_coded r =
     (either (leb r 12) (coded 8 6 refl) (coded 16 7 refl))))
 
 -- HCLK and PCLK as granted are the divisions that the codes ask for
-ahb_back : (s : ℕ) (q : Request) → s / hpre_divider (ahb_for s q).hpre ≡ (ahb_for s q).hclk.0
+ahb_back : (s : ℕ) (q : Option Hertz) → s / hpre_divider (ahb_for s q).hpre ≡ (ahb_for s q).hclk.0
 unfolding ahb_for
 ahb_back s q = ap (λ (d : ℕ). s / d) (hpre_coded s _).is
 
-apb_back : (most h : ℕ) (q : Request) → h / ppre_divider (apb_for most h q).ppre ≡ (apb_for most h q).pclk.0
+apb_back : (most h : ℕ) (q : Option Hertz) → h / ppre_divider (apb_for most h q).ppre ≡ (apb_for most h q).pclk.0
 unfolding apb_for
 apb_back most h q = ap (λ (d : ℕ). h / d) (ppre_coded _).is
 
-tim_back : (most h : ℕ) (q : Request) → timclk_of (h / ppre_divider (apb_for most h q).ppre) (ppre_divider (apb_for most h q).ppre) ≡ (apb_for most h q).timclk.0
+tim_back : (most h : ℕ) (q : Option Hertz) → timclk_of (h / ppre_divider (apb_for most h q).ppre) (ppre_divider (apb_for most h q).ppre) ≡ (apb_for most h q).timclk.0
 unfolding apb_for
 tim_back most h q = ap (λ (d : ℕ). timclk_of (h / d) d) (ppre_coded _).is
 
@@ -82,20 +83,20 @@ p_back Div6 = refl
 p_back Div8 = refl
 
 -- PLLSRC
-source_back : (h : HSEClock) → cond (eqb (src_of h) 0) 16000000 (asked_hertz (hse_given h)) ≡ input_of h
+source_back : (h : Option HSEClock) → cond (eqb (src_of h) 0) 16000000 (asked_hertz (hse_given h)) ≡ input_of h
 unfolding input_of
-source_back Absent = refl
-source_back (Oscillator f) = refl
-source_back (Bypass f) = refl
+source_back None = refl
+source_back (Some (Oscillator f)) = refl
+source_back (Some (Bypass f)) = refl
 
 -- SW: the P output as read, p, counts with `use_pll` alone; a plan with a 48 MHz choice stores the PLL's fields without it too
-switch_back : (on : Bool) (h : HSEClock) (p q : ℕ) → (on ≡ true → p ≡ q)
+switch_back : (on : Bool) (h : Option HSEClock) (p q : ℕ) → (on ≡ true → p ≡ q)
     → cond (eqb (cond on 2 (src_of h)) 0) (base_of 16000000) (cond (eqb (cond on 2 (src_of h)) 1) (base_of (asked_hertz (hse_given h))) p) ≡ cond on q (base_of (input_of h))
 unfolding input_of
 switch_back true h p q e = e refl
-switch_back false Absent p q e = refl
-switch_back false (Oscillator f) p q e = refl
-switch_back false (Bypass f) p q e = refl
+switch_back false None p q e = refl
+switch_back false (Some (Oscillator f)) p q e = refl
+switch_back false (Some (Bypass f)) p q e = refl
 
 -- `use_pll` alone has the plan store the PLL's fields
 stored : (l : Pll) → l.use_pll ≡ true → pll_stored l ≡ true
@@ -137,7 +138,7 @@ module _ (d : CFGR) (f : List ℕ) where
 -- two plans with the same HSE whose codes one file holds have the same clocks
 module _ (x z : Clocks) (f : List ℕ) (e : x.hse ≡ z.hse) (r : Reads x f) (t : Reads z f) where
   agree : (g : ℕ → List ℕ → ℕ) {a b : ℕ} → g (asked_hertz x.hse) f ≡ a → g (asked_hertz z.hse) f ≡ b → a ≡ b
-  agree g p q = sym p ∙ ap (λ (h : Request). g (asked_hertz h) f) e ∙ q
+  agree g p q = sym p ∙ ap (λ (h : Option Hertz). g (asked_hertz h) f) e ∙ q
 
   pub same_clocks : (x.sysclk.0 ≡ z.sysclk.0) × (x.hclk.0 ≡ z.hclk.0) × (x.pclk1.0 ≡ z.pclk1.0) × (x.pclk2.0 ≡ z.pclk2.0)
   same_clocks =

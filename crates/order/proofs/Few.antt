@@ -1,4 +1,5 @@
 -- A plan's list has no fewer stores and waits than its first and last section, and no more than the list with everything in it.
+use Rattle.std.specs.Prelude.{Option, Some}
 use Prim.Native.Nat.{ℕ, suc, ◌+◌, ◌≤◌}
 use native.Mathlib.Omega.{arith}
 use native.Mathlib.Nat.{zero-add, suc-add}
@@ -8,11 +9,13 @@ use mathlib.Core.List.{List, [], ◌∷◌, ◌++◌}
 use lib.ListN.{length, length-append}
 use Rattle.kinds.specs.declared.CFGR.{CFGR}
 use Rattle.kinds.specs.declared.HSEClock.{HSEClock}
-use Rattle.kinds.specs.declared.LSEClock.{LSEClock}
-use Rattle.kinds.specs.declared.LSEClock.TheVariants.{Oscillator}
-use Rattle.kinds.specs.declared.Choice48.{Choice48}
-use Rattle.kinds.specs.declared.Choice48.TheVariants.{Pllq}
+use Rattle.kinds.specs.declared.LSEClockMode.{LSEClockMode}
+use Rattle.kinds.specs.declared.LSEClockMode.TheVariants.{Oscillator}
+use Rattle.kinds.specs.declared.PLL48CLK.{PLL48CLK}
+use Rattle.kinds.specs.declared.PLL48CLK.TheVariants.{Pllq}
 use Rattle.clocks.specs.declared.InternalRCCConfig.{InternalRCCConfig}
+use Rattle.order.specs.declared.wait.Awaited.{Awaited}
+use Rattle.order.specs.declared.wait.Awaited.TheVariants.{Hsi, Hse}
 use Rattle.order.specs.Places.{HSEBYP, HSEON, PLLSAION, PLLI2SON}
 use Rattle.order.specs.Order.{Op, put, wait, one, hsi_ops, crystal_ops, hse_ops, pll_on, over_ops, pll_ops, lse_ops, lsi_ops, pllsaicfgr, sai_ops, choice_ops, plli2scfgr, i2s_ops, sw_of, last_ops, ops_of, STORES, WAITS, stores_of, waits}
 use Rattle.order.proofs.Looks.{stores_both}
@@ -68,7 +71,7 @@ module _ (d : CFGR) (y : InternalRCCConfig) where
 
   -- with everything in it: the sections that may be absent
   abbrev hse_most : List Op
-  hse_most = crystal_ops HSEBYP HSEON 2 0
+  hse_most = crystal_ops HSEBYP HSEON Hse 0
 
   abbrev pll_most : List Op
   pll_most = pll_on d.sources.hse d.pll y.vos_scale ++ over_ops true
@@ -79,7 +82,7 @@ module _ (d : CFGR) (y : InternalRCCConfig) where
   abbrev i2s_most : List Op
   i2s_most = put (plli2scfgr d.i2s) ∷ one PLLI2SON 1 ∷ []
 
-  hse_few : (h : HSEClock) → Counts [] hse_most (hse_ops h)
+  hse_few : (h : Option HSEClock) → Counts [] hse_most (hse_ops h)
   hse_few = hse_kinds (AtMost hse_most) nothing (λ v. few (omega arith) (omega arith))
 
   pll_few : Counts [] pll_most (pll_ops d.sources.hse d.pll y)
@@ -89,8 +92,8 @@ module _ (d : CFGR) (y : InternalRCCConfig) where
       stored true = few (omega arith) (omega arith)
       stored false = few (omega arith) (omega arith)
 
-  lse_few : (h : LSEClock) → Counts [] (lse_ops Oscillator) (lse_ops h)
-  lse_few = lse_kinds (AtMost (lse_ops Oscillator)) nothing (λ v. few (omega arith) (omega arith))
+  lse_few : (h : Option LSEClockMode) → Counts [] (lse_ops (Some Oscillator)) (lse_ops h)
+  lse_few = lse_kinds (AtMost (lse_ops (Some Oscillator))) nothing (λ v. few (omega arith) (omega arith))
 
   lsi_few : (b : Bool) → Counts [] (lsi_ops true) (lsi_ops b)
   lsi_few = lsi_kinds (AtMost (lsi_ops true)) nothing (few (omega arith) (omega arith))
@@ -98,14 +101,14 @@ module _ (d : CFGR) (y : InternalRCCConfig) where
   sai_few : Counts [] sai_most (sai_ops d.sai)
   sai_few = sai_kinds (AtMost sai_most) nothing d.sai (few (omega arith) (omega arith))
 
-  choice_few : (k : Choice48) → Counts [] (choice_ops Pllq) (choice_ops k)
-  choice_few = choice_kinds (AtMost (choice_ops Pllq)) nothing (λ v. few (omega arith) (omega arith))
+  choice_few : (k : Option PLL48CLK) → Counts [] (choice_ops (Some Pllq)) (choice_ops k)
+  choice_few = choice_kinds (AtMost (choice_ops (Some Pllq))) nothing (λ v. few (omega arith) (omega arith))
 
   i2s_few : Counts [] i2s_most (i2s_ops d.i2s)
   i2s_few = i2s_kinds (AtMost i2s_most) nothing d.i2s (few (omega arith) (omega arith))
 
   abbrev most : List Op
-  most = hsi_ops ++ (hse_most ++ (pll_most ++ (lse_ops Oscillator ++ (lsi_ops true ++ (sai_most ++ (choice_ops Pllq ++ (i2s_most ++ last)))))))
+  most = hsi_ops ++ (hse_most ++ (pll_most ++ (lse_ops (Some Oscillator) ++ (lsi_ops true ++ (sai_most ++ (choice_ops (Some Pllq) ++ (i2s_most ++ last)))))))
 
   list_counts : Counts (hsi_ops ++ last) most (ops_of d y)
   list_counts =
@@ -131,15 +134,15 @@ module _ (d : CFGR) (y : InternalRCCConfig) where
   waits_least = list_counts.least_waits
 
 -- HSION, HSI's wait, SW = HSI: so at least two stores come before any other wait
-begins : (rest a b : List Op) (s t : List (ℕ × ℕ)) (k : ℕ) → put s ∷ wait 1 ∷ put t ∷ rest ≡ a ++ wait k ∷ b → (k ≡ 1 → ⊥) → 2 ≤ length (stores_of a)
+begins : (rest a b : List Op) (s t : List (ℕ × ℕ)) (k : Awaited) → put s ∷ wait Hsi ∷ put t ∷ rest ≡ a ++ wait k ∷ b → (k ≡ Hsi → ⊥) → 2 ≤ length (stores_of a)
 begins rest [] b s t k e n = absurd (let q : ◌≡◌ {A = ℕ} 0 1 = cc in omega arith)
-begins rest (o ∷ []) b s t k e n = absurd (n (let q : k ≡ 1 = cc in q))
+begins rest (o ∷ []) b s t k e n = absurd (n (let q : k ≡ Hsi = cc in q))
 begins rest (o ∷ q ∷ []) b s t k e n = absurd (let z : ◌≡◌ {A = ℕ} 0 1 = cc in omega arith)
 begins rest (o ∷ q ∷ u ∷ a) b s t k e n =
     let i : o ≡ put s = cc in
-    let j : q ≡ wait 1 = cc in
+    let j : q ≡ wait Hsi = cc in
     let h : u ≡ put t = cc in
     rw (i, j, h) (omega arith)
 
-pub two_before : (d : CFGR) (y : InternalRCCConfig) (a b : List Op) (k : ℕ) → ops_of d y ≡ a ++ wait k ∷ b → (k ≡ 1 → ⊥) → 2 ≤ length (stores_of a)
+pub two_before : (d : CFGR) (y : InternalRCCConfig) (a b : List Op) (k : Awaited) → ops_of d y ≡ a ++ wait k ∷ b → (k ≡ Hsi → ⊥) → 2 ≤ length (stores_of a)
 two_before d y a b k e n = begins _ a b _ _ k e n

@@ -7,6 +7,7 @@ use lib.Dec.{eqb}
 use lib.ListN.{length, get_or, take, set}
 use lib.Seq.{get_or-set_other, take-append_seam}
 use borrow.Author.Tests.{eqb-false}
+use Rattle.order.specs.declared.wait.Awaited.{Awaited}
 use Rattle.order.specs.Files.{writes, applies}
 use Rattle.order.specs.Order.{Op, put, wait, stores_of}
 use Rattle.order.specs.Fields.{names}
@@ -22,7 +23,7 @@ stores_both (put ws ∷ a) b = ap (λ (l : List (List (ℕ × ℕ))). ws ∷ l) 
 stores_both (wait k ∷ a) b = stores_both a b
 
 -- the stores before a wait are the list's first ones
-pub first_stores : (os a b : List Op) (k : ℕ) → os ≡ a ++ wait k ∷ b → take (length (stores_of a)) (stores_of os) ≡ stores_of a
+pub first_stores : (os a b : List Op) (k : Awaited) → os ≡ a ++ wait k ∷ b → take (length (stores_of a)) (stores_of os) ≡ stores_of a
 first_stores os a b k e = ap (λ (l : List Op). take (length (stores_of a)) (stores_of l)) e ∙ ap (take (length (stores_of a))) (stores_both a (wait k ∷ b)) ∙ take-append_seam (stores_of a) (stores_of b)
 
 pub flat_both : (a b : List (List (ℕ × ℕ))) → flat (a ++ b) ≡ flat a ++ flat b

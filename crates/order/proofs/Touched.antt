@@ -1,4 +1,5 @@
 -- A plan's list leaves each field of the plan at its value and never touches another place: its nine sections, joined.
+use Rattle.std.specs.Prelude.{Option}
 use Prim.Native.Nat.{ℕ}
 use mathlib.Core.Path.{◌≡◌, refl}
 use mathlib.Core.Bool.{Bool, true, false}
@@ -6,8 +7,8 @@ use mathlib.Core.List.{List, ◌++◌}
 use lib.ListN.{length, get_or, take}
 use Rattle.kinds.specs.declared.CFGR.{CFGR}
 use Rattle.kinds.specs.declared.HSEClock.{HSEClock}
-use Rattle.kinds.specs.declared.LSEClock.{LSEClock}
-use Rattle.kinds.specs.declared.Choice48.{Choice48}
+use Rattle.kinds.specs.declared.LSEClockMode.{LSEClockMode}
+use Rattle.kinds.specs.declared.PLL48CLK.{PLL48CLK}
 use Rattle.kinds.specs.declared.Pll.{Pll}
 use Rattle.kinds.specs.declared.Sai.{Sai}
 use Rattle.kinds.specs.declared.I2s.{I2s}
@@ -22,16 +23,16 @@ use Rattle.order.proofs.Looks.{written, quiet_cut}
 use Rattle.order.proofs.ByKind.{pll_held, hse_kinds, pll_kinds, lse_kinds, lsi_kinds, sai_kinds, choice_kinds, i2s_kinds}
 use Rattle.order.proofs.Homes.{hsi_places, hse_places, pll_places, lse_places, lsi_places, sai_places, choice_places, i2s_places, last_places, Section, Whole, empty, ends, then, begins, holds}
 
-pub hse_section : (h : HSEClock) → Section hse_places (hse_ops h) (hse_fields h)
+pub hse_section : (h : Option HSEClock) → Section hse_places (hse_ops h) (hse_fields h)
 hse_section = hse_kinds (Section hse_places) empty (λ u. record { inside = refl; fields = refl; makes = λ v. refl; only = refl })
 
-pub pll_section : (h : HSEClock) (l : Pll) (y : InternalRCCConfig) → Section pll_places (pll_ops h l y) (pll_fields h l y)
+pub pll_section : (h : Option HSEClock) (l : Pll) (y : InternalRCCConfig) → Section pll_places (pll_ops h l y) (pll_fields h l y)
 pll_section h l y = pll_kinds (Section pll_places) empty h l y stored where
   stored : (o : Bool) → Section pll_places (pll_on h l y.vos_scale ++ over_ops o) (pll_held h l y.vos_scale o)
   stored true = record { inside = refl; fields = refl; makes = λ v. refl; only = refl }
   stored false = record { inside = refl; fields = refl; makes = λ v. refl; only = refl }
 
-pub lse_section : (h : LSEClock) → Section lse_places (lse_ops h) (lse_fields h)
+pub lse_section : (h : Option LSEClockMode) → Section lse_places (lse_ops h) (lse_fields h)
 lse_section = lse_kinds (Section lse_places) empty (λ u. record { inside = refl; fields = refl; makes = λ v. refl; only = refl })
 
 pub lsi_section : (b : Bool) → Section lsi_places (lsi_ops b) (lsi_fields b)
@@ -40,7 +41,7 @@ lsi_section = lsi_kinds (Section lsi_places) empty (record { inside = refl; fiel
 pub sai_section : (a : Sai) → Section sai_places (sai_ops a) (sai_fields a)
 sai_section a = sai_kinds (Section sai_places) empty a (record { inside = refl; fields = refl; makes = λ v. refl; only = refl })
 
-pub choice_section : (k : Choice48) → Section choice_places (choice_ops k) (choice_fields k)
+pub choice_section : (k : Option PLL48CLK) → Section choice_places (choice_ops k) (choice_fields k)
 choice_section = choice_kinds (Section choice_places) empty (λ u. record { inside = refl; fields = refl; makes = λ v. refl; only = refl })
 
 pub i2s_section : (i : I2s) → Section i2s_places (i2s_ops i) (i2s_fields i)

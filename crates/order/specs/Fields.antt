@@ -1,12 +1,12 @@
 -- The fields that a plan stores, by kind of plan, each with the value that it ends at; every other place is never touched.
-use Rattle.std.specs.Prelude.{ℕ, ◌≡◌, Bool, true, false, cond, List, [], ◌∷◌, ◌++◌, eqb, get_or}
+use Rattle.std.specs.Prelude.{ℕ, ◌≡◌, Bool, true, false, cond, List, [], ◌∷◌, ◌++◌, eqb, get_or, None, Option, Some}
 use Rattle.kinds.specs.declared.CFGR.{CFGR}
 use Rattle.kinds.specs.declared.HSEClock.{HSEClock}
-use Rattle.kinds.specs.declared.HSEClock.TheVariants.{Absent as NoHse, Oscillator, Bypass}
-use Rattle.kinds.specs.declared.LSEClock.{LSEClock}
-use Rattle.kinds.specs.declared.LSEClock.TheVariants.{Absent as NoLse, Oscillator as LseOscillator, Bypass as LseBypass}
-use Rattle.kinds.specs.declared.Choice48.{Choice48}
-use Rattle.kinds.specs.declared.Choice48.TheVariants.{Absent as NoChoice, Pllq, Pllsai}
+use Rattle.kinds.specs.declared.HSEClock.TheVariants.{Oscillator, Bypass}
+use Rattle.kinds.specs.declared.LSEClockMode.{LSEClockMode}
+use Rattle.kinds.specs.declared.LSEClockMode.TheVariants.{Oscillator as LseOscillator, Bypass as LseBypass}
+use Rattle.kinds.specs.declared.PLL48CLK.{PLL48CLK}
+use Rattle.kinds.specs.declared.PLL48CLK.TheVariants.{Pllq, Pllsai}
 use Rattle.kinds.specs.declared.Pll.{Pll}
 use Rattle.kinds.specs.declared.Sai.{Sai}
 use Rattle.kinds.specs.declared.I2s.{I2s}
@@ -20,24 +20,24 @@ abbrev pub hsi_fields : List (ℕ × ℕ)
 hsi_fields = (HSION, 1) ∷ []
 
 -- with HSE
-abbrev pub hse_fields : HSEClock → List (ℕ × ℕ)
-hse_fields NoHse = []
-hse_fields (Oscillator f) = (HSEBYP, 0) ∷ (HSEON, 1) ∷ []
-hse_fields (Bypass f) = (HSEBYP, 1) ∷ (HSEON, 1) ∷ []
+abbrev pub hse_fields : Option HSEClock → List (ℕ × ℕ)
+hse_fields None = []
+hse_fields (Some (Oscillator f)) = (HSEBYP, 0) ∷ (HSEON, 1) ∷ []
+hse_fields (Some (Bypass f)) = (HSEBYP, 1) ∷ (HSEON, 1) ∷ []
 
 -- with over-drive
 abbrev pub over_fields : Bool → List (ℕ × ℕ)
 over_fields b = cond b ((ODEN, 1) ∷ (ODSWEN, 1) ∷ []) []
 
 -- with `use_pll` or a 48 MHz choice
-abbrev pub pll_fields : HSEClock → Pll → InternalRCCConfig → List (ℕ × ℕ)
+abbrev pub pll_fields : Option HSEClock → Pll → InternalRCCConfig → List (ℕ × ℕ)
 pll_fields h l y = cond (pll_stored l) (pllcfgr h l ++ (PWREN, 1) ∷ (VOS, y.vos_scale) ∷ (PLLON, 1) ∷ over_fields y.overdrive) []
 
 -- with LSE
-abbrev pub lse_fields : LSEClock → List (ℕ × ℕ)
-lse_fields NoLse = []
-lse_fields LseOscillator = (LSEBYP, 0) ∷ (LSEON, 1) ∷ []
-lse_fields LseBypass = (LSEBYP, 1) ∷ (LSEON, 1) ∷ []
+abbrev pub lse_fields : Option LSEClockMode → List (ℕ × ℕ)
+lse_fields None = []
+lse_fields (Some LseOscillator) = (LSEBYP, 0) ∷ (LSEON, 1) ∷ []
+lse_fields (Some LseBypass) = (LSEBYP, 1) ∷ (LSEON, 1) ∷ []
 
 -- with LSI
 abbrev pub lsi_fields : Bool → List (ℕ × ℕ)
@@ -48,10 +48,10 @@ abbrev pub sai_fields : Sai → List (ℕ × ℕ)
 sai_fields a = cond a.use_pllsai (pllsaicfgr a ++ (PLLSAION, 1) ∷ []) []
 
 -- with a 48 MHz choice
-abbrev pub choice_fields : Choice48 → List (ℕ × ℕ)
-choice_fields NoChoice = []
-choice_fields Pllq = (CK48MSEL, 0) ∷ []
-choice_fields Pllsai = (CK48MSEL, 1) ∷ []
+abbrev pub choice_fields : Option PLL48CLK → List (ℕ × ℕ)
+choice_fields None = []
+choice_fields (Some Pllq) = (CK48MSEL, 0) ∷ []
+choice_fields (Some Pllsai) = (CK48MSEL, 1) ∷ []
 
 -- with PLLI2S
 abbrev pub i2s_fields : I2s → List (ℕ × ℕ)

@@ -2,5 +2,7 @@
 #![tactic(auto)]
 
 pub mod registers;
+mod wait;
 
 pub use registers::PLACES;
+pub use wait::Awaited;

@@ -4,10 +4,9 @@ ghost use Rattle.order.specs.Files.{Wrote};
 ghost use Rattle.order.specs.Order.{src_of, sw_of, chosen, pll_stored, pllcfgr, pllsaicfgr, plli2scfgr, mco_fields, acr, prescalers};
 
 use clocks::InternalRCCConfig;
-use kinds::codes::{mco1_code, mco2_code, mcopre_code, pllp_code};
-use kinds::{Choice48, HSEClock, I2s, Mco, Pll, Sai};
+use kinds::{HSEClock, I2s, Mco, Pll, Sai};
 
-// How many places there are.
+// How many places there are. Each is a number: C lends the file by position.
 pub const PLACES: usize = 35;
 
 pub const HSION: usize = 0;
@@ -81,54 +80,34 @@ pub const LATENCY: usize = 33;
 pub const OTHER: usize = 34;
 
 // 1 with HSE: PLLSRC, and the code of SW.
-fn pllsrc(hse: HSEClock) -> u32
+fn pllsrc(hse: Option<HSEClock>) -> u32
     ensures { result ≡ src_of hse }
 {
-    match hse {
-        HSEClock::Absent => 0,
-        HSEClock::Oscillator(_) => 1,
-        HSEClock::Bypass(_) => 1,
-    }
+    u32::from(hse.is_some())
 }
 
-// SW: PLL if use_pll, else HSE if given, else HSI.
-pub fn sw(hse: HSEClock, pll: Pll) -> u32
+// SW, by its code as it is stored: PLL if use_pll, else HSE if given, else HSI.
+pub fn sw(hse: Option<HSEClock>, pll: Pll) -> u32
     ensures { result ≡ sw_of hse pll }
 {
     if pll.use_pll { 2 } else { pllsrc(hse) }
-}
-
-// Whether a 48 MHz clock is chosen.
-fn is_chosen(choice: Choice48) -> bool
-    ensures { result ≡ chosen choice }
-{
-    match choice {
-        Choice48::Absent => false,
-        Choice48::Pllq => true,
-        Choice48::Pllsai => true,
-    }
 }
 
 // Whether the PLL's fields are stored: use_pll or a 48 MHz choice.
 pub fn is_stored(pll: Pll) -> bool
     ensures { result ≡ pll_stored pll }
 {
-    let choice = pll.pll48clk;
-    if pll.use_pll { true } else { is_chosen(choice) }
+    pll.use_pll || pll.pll48clk.is_some()
 }
 
-// The five PLL fields.
-pub fn pllcfgr(mut file: [u32; PLACES], hse: HSEClock, pll: Pll) -> [u32; PLACES]
+// The five PLL fields. As each store of several places, it gives the whole file: once a start has ended, no place of it is stored.
+pub fn pllcfgr(mut file: [u32; PLACES], hse: Option<HSEClock>, pll: Pll) -> [u32; PLACES]
     ensures { Wrote file (pllcfgr hse pll) result }
 {
-    let m = pll.m;
-    let n = pll.n;
-    let p = pll.p;
-    let q = pll.q;
-    file[PLLM] = m.0;
-    file[PLLN] = n.0;
-    file[PLLP] = pllp_code(p);
-    file[PLLQ] = q.0;
+    file[PLLM] = pll.m.0;
+    file[PLLN] = pll.n.0;
+    file[PLLP] = u32::from(pll.p);
+    file[PLLQ] = pll.q.0;
     file[PLLSRC] = pllsrc(hse);
     file
 }
@@ -137,12 +116,9 @@ pub fn pllcfgr(mut file: [u32; PLACES], hse: HSEClock, pll: Pll) -> [u32; PLACES
 pub fn pllsaicfgr(mut file: [u32; PLACES], sai: Sai) -> [u32; PLACES]
     ensures { Wrote file (pllsaicfgr sai) result }
 {
-    let n = sai.n;
-    let p = sai.p;
-    let q = sai.q;
-    file[PLLSAIN] = n.0;
-    file[PLLSAIP] = pllp_code(p);
-    file[PLLSAIQ] = q.0;
+    file[PLLSAIN] = sai.n.0;
+    file[PLLSAIP] = u32::from(sai.p);
+    file[PLLSAIQ] = sai.q.0;
     file
 }
 
@@ -150,12 +126,9 @@ pub fn pllsaicfgr(mut file: [u32; PLACES], sai: Sai) -> [u32; PLACES]
 pub fn plli2scfgr(mut file: [u32; PLACES], i2s: I2s) -> [u32; PLACES]
     ensures { Wrote file (plli2scfgr i2s) result }
 {
-    let n = i2s.n;
-    let d = i2s.r;
-    let q = i2s.q;
-    file[PLLI2SN] = n.0;
-    file[PLLI2SR] = d.0;
-    file[PLLI2SQ] = q.0;
+    file[PLLI2SN] = i2s.n.0;
+    file[PLLI2SR] = i2s.r.0;
+    file[PLLI2SQ] = i2s.q.0;
     file
 }
 
@@ -163,14 +136,10 @@ pub fn plli2scfgr(mut file: [u32; PLACES], i2s: I2s) -> [u32; PLACES]
 pub fn mco(mut file: [u32; PLACES], mco: Mco) -> [u32; PLACES]
     ensures { Wrote file (mco_fields mco) result }
 {
-    let mco1 = mco.mco1;
-    let mco1pre = mco.mco1pre;
-    let mco2 = mco.mco2;
-    let mco2pre = mco.mco2pre;
-    file[MCO1] = mco1_code(mco1);
-    file[MCO1PRE] = mcopre_code(mco1pre);
-    file[MCO2] = mco2_code(mco2);
-    file[MCO2PRE] = mcopre_code(mco2pre);
+    file[MCO1] = u32::from(mco.mco1);
+    file[MCO1PRE] = u32::from(mco.mco1pre);
+    file[MCO2] = u32::from(mco.mco2);
+    file[MCO2PRE] = u32::from(mco.mco2pre);
     file
 }
 

@@ -6,30 +6,31 @@ use mathlib.Core.Bool.{Bool, true, false, cond}
 use mathlib.Core.List.{[], ◌∷◌}
 use lib.Dec.{T, eqb}
 use native.Mathlib.Omega.{arith}
+use Rattle.std.specs.Prelude.{None, Result, Ok, Err}
 use native.Mathlib.Nat.{div-le_of_le-mul}
 use Rattle.kinds.specs.Limits.{check_of}
 use Rattle.kinds.specs.Table.{Refused as Given, limit_numbers}
 use Rattle.kinds.specs.Turns.{turn_of, First, none, first, OneOf}
 use Rattle.kinds.proofs.Turns.{exactly, given_only, wider, ahead, in_order, none_is}
+use Rattle.kinds.specs.Refusals.{refusal_of, number_of as number_of_refusal}
+use Rattle.kinds.specs.declared.refusals.Refusal.{Refusal}
+use Rattle.kinds.proofs.Numbered.{numbered, check_numbered}
 use Rattle.kinds.proofs.Check.{kept_none, check_first, limit_number}
 use Rattle.kinds.specs.declared.CFGR.{CFGR}
 use Rattle.pll.proofs.Dividers.{split}
 use Rattle.pll.specs.Outputs.{p_output_of}
-use Rattle.pll.specs.declared.Window.TheVariants.{Absent}
 use Rattle.configure.specs.Configure.{base_in, wanted_in, p_window_in, configured_of, number_of as configured_number, passes_of as configured_passes}
 use Rattle.configure.specs.Ways.{Seeks, Settles, Near, Keeps}
 use Rattle.configure.specs.declared.Configured.{Configured}
-use Rattle.configure.specs.declared.Configured.TheVariants.{Refused as NotConfigured, Ready as Configures}
+use Rattle.configure.specs.declared.Unplanned.{Unplanned}
 use Rattle.configure.proofs.Theorems.{refuses_with_7_exactly, planned_from, planned_checked, planned_keeps, planned_again, planned_near}
 use Rattle.clocks.specs.Derive.{sysclk_of, clocks_of, config_of, derived_of}
 use Rattle.clocks.specs.declared.Clocks.{Clocks}
 use Rattle.clocks.specs.declared.InternalRCCConfig.{InternalRCCConfig}
 use Rattle.clocks.specs.declared.Derived.{Derived}
-use Rattle.clocks.specs.declared.Derived.TheVariants.{Refused as NotDerived, At}
-use Rattle.plan.specs.Plan.{late_refusal, limited_of, clocked_of, planned_of, plan_of, number_of, passes_of}
+use Rattle.plan.specs.Plan.{ready as plans, refuse, late_refusal, limited_of, clocked_of, planned_of, plan_of, number_of, passes_of}
 use Rattle.plan.specs.Refusals.{rough_in, Late, i2s_vco, late_numbers, PlanRefused, limit, search, late, plan_numbers}
 use Rattle.plan.specs.declared.Planned.{Planned}
-use Rattle.plan.specs.declared.Planned.TheVariants.{Refused, Ready}
 use Rattle.plan.proofs.Late.{late_number, late_first}
 use Rattle.plan.proofs.View.{PlanView, refused, missed, limited, ready, planned_derived, plan_view, plan_of_lem}
 
@@ -38,8 +39,19 @@ use Rattle.plan.proofs.View.{PlanView, refused, missed, limited, ready, planned_
 planned_only : (c d : CFGR) (k : ℕ) → Settles c d k → (n : ℕ) → PlanRefused c n → Late d n
 planned_only c d k e n (limit r) = absurd (kept_none c (planned_from c d k e) n r)
 planned_only c d k e n (search s g) =
-    absurd (let h = (refuses_with_7_exactly c).1 (s, g) in let z : ◌≡◌ {A = ℕ} 0 7 = sym (ap (λ (r : Configured). configured_number r) e) ∙ h in omega arith)
-planned_only c d k e n (late {d = f} y l) = let g : f ≡ d = cc in subst (λ (z : CFGR). Late z n) g l
+    absurd (let h = (refuses_with_7_exactly c).1 (s, g) in let z : ◌≡◌ {A = ℕ} 0 7 = sym (ap (λ (r : Result Configured Unplanned). configured_number r) e) ∙ h in omega arith)
+planned_only c d k e n (late {d = f} {k = j} y l) =
+    let g : ◌≡◌ {A = Configured} (record { cfgr = f; passes = j }) (record { cfgr = d; passes = k }) = cc in
+    subst (λ (z : Configured). Late z.cfgr n) g l
+
+-- a number of 9 to 11 is that of the refusal that it names
+late_numbered : (d : CFGR) → (late_refusal d ≡ 0 → ⊥) → number_of_refusal (refusal_of (late_refusal d)) ≡ late_refusal d
+unfolding refusal_of
+late_numbered d z = from (given_only (late_first d))
+  where
+    from : (late_refusal d ≡ 0) ⊎ Late d (late_refusal d) → number_of_refusal (refusal_of (late_refusal d)) ≡ late_refusal d
+    from (inl e) = absurd (z e)
+    from (inr l) = numbered late_numbers tt (late_refusal d) (late_number d (late_refusal d) l)
 
 -- 7 comes after the numbers of the check, and before 9 to 11
 limits_ahead : T (ahead limit_numbers (7 ∷ late_numbers))
@@ -73,10 +85,10 @@ plan_first c = from (plan_of c) (plan_view c)
     lates d k e a (none f) = none (λ n r. f n (planned_only c d k e n r))
     lates d k e a (first x f) = first (late e x) (λ n r. f n (planned_only c d k e n r))
 
-    from : (p : Planned) → PlanView c p → First (PlanRefused c) (number_of p)
-    from p (refused z) = limits (check_of c) (check_first c) z
+    from : (p : Result Planned Unplanned) → PlanView c p → First (PlanRefused c) (number_of p)
+    from p (refused z) = rw (check_numbered c z) (limits (check_of c) (check_first c) z)
     from p (missed s g) = first (search s g) (unfound s)
-    from p (limited {d = d} {k = k} e z) = lates d k e (late_refusal d) (late_first d)
+    from p (limited {d = d} {k = k} e z) = rw (late_numbered d z) (lates d k e (late_refusal d) (late_first d))
     from p (ready {d = d} {k = k} e z) = lates d k e 0 (subst (λ (n : ℕ). First (Late d) n) z (late_first d))
 
 -- so it is n exactly if n is the first in turn of those given
@@ -96,26 +108,26 @@ plan_accepts_exactly c = (λ e. forth (plan_of c) (plan_view c) e, λ w. back w.
     zero d a (none f) g = refl
     zero d a (first l f) g = absurd (g a l)
 
-    forth : (p : Planned) → PlanView c p → number_of p ≡ 0 → (d : CFGR) × (k : ℕ) × Settles c d k × ((n : ℕ) → Late d n → ⊥)
-    forth p (refused z) e = absurd (z e)
+    forth : (p : Result Planned Unplanned) → PlanView c p → number_of p ≡ 0 → (d : CFGR) × (k : ℕ) × Settles c d k × ((n : ℕ) → Late d n → ⊥)
+    forth p (refused z) e = absurd (z (sym (check_numbered c z) ∙ e))
     forth p (missed s g) e = absurd (omega arith)
-    forth p (limited a z) e = absurd (z e)
+    forth p (limited {d = d} a z) e = absurd (z (sym (late_numbered d z) ∙ e))
     forth p (ready {d = d} {k = k} a z) e = (d, k, a, unlimited d (late_refusal d) (late_first d) z)
 
     back : (d : CFGR) (k : ℕ) → Settles c d k → ((n : ℕ) → Late d n → ⊥) → number_of (plan_of c) ≡ 0
-    back d k a f = ap (λ (p : Planned). number_of p) (plan_of_lem c d k a (zero d (late_refusal d) (late_first d) f))
+    back d k a f = ap (λ (p : Result Planned Unplanned). number_of p) (plan_of_lem c d k a (zero d (late_refusal d) (late_first d) f))
 
 -- a refusal has a number that is not 0
-pub refused_is_not_0 : (c : CFGR) (n k : ℕ) → plan_of c ≡ Refused n k → n ≡ 0 → ⊥
-refused_is_not_0 c n k e z = from (plan_of c) (plan_view c) e
+pub refused_is_not_0 : (c : CFGR) (r : Refusal) (k : ℕ) → plan_of c ≡ refuse r k → number_of_refusal r ≡ 0 → ⊥
+refused_is_not_0 c r k e z = from (plan_of c) (plan_view c) e
   where
-    number : {p : Planned} → p ≡ Refused n k → number_of p ≡ n
-    number h = ap (λ (q : Planned). number_of q) h
+    number : {p : Result Planned Unplanned} → p ≡ refuse r k → number_of p ≡ number_of_refusal r
+    number h = ap (λ (q : Result Planned Unplanned). number_of q) h
 
-    from : (p : Planned) → PlanView c p → p ≡ Refused n k → ⊥
-    from p (refused a) h = a (number h ∙ z)
+    from : (p : Result Planned Unplanned) → PlanView c p → p ≡ refuse r k → ⊥
+    from p (refused a) h = a (sym (check_numbered c a) ∙ number h ∙ z)
     from p (missed s g) h = let y = number h in omega arith
-    from p (limited a b) h = b (number h ∙ z)
+    from p (limited {d = d} a b) h = b (sym (late_numbered d b) ∙ number h ∙ z)
     from p (ready a b) h = let y : ◌≡◌ {A = ℕ} 0 1 = cc in omega arith
 
 -- the table gives no number for plan but those of its list
@@ -141,64 +153,68 @@ pub passes_are_configure's : (c : CFGR) → passes_of (plan_of c) ≡ configured
 unfolding plan_of planned_of clocked_of limited_of
 passes_are_configure's c = from (configured_of c)
   where
-    by : (t : Bool) (d : CFGR) (n k : ℕ) (x : Clocks) (y : InternalRCCConfig) → passes_of (cond t (Ready d k x y) (Refused n k)) ≡ k
+    by : (t : Bool) (d : CFGR) (n k : ℕ) (x : Clocks) (y : InternalRCCConfig) → passes_of (cond t (plans d k x y) (refuse (refusal_of n) k)) ≡ k
     by true d n k x y = refl
     by false d n k x y = refl
 
-    at : (d : CFGR) (k : ℕ) (z : Derived) → passes_of (clocked_of d k z) ≡ k
-    at d k (NotDerived n) = refl
-    at d k (At x y) = by (eqb (late_refusal d) 0) d (late_refusal d) k x y
+    at : (d : CFGR) (k : ℕ) (z : Result Derived Refusal) → passes_of (clocked_of d k z) ≡ k
+    at d k (Ok x) = by (eqb (late_refusal d) 0) d (late_refusal d) k x.clocks x.config
+    at d k (Err r) = refl
 
-    from : (f : Configured) → passes_of (planned_of f) ≡ configured_passes f
-    from (NotConfigured n k) = refl
-    from (Configures d k) = at d k (derived_of d)
+    from : (f : Result Configured Unplanned) → passes_of (planned_of f) ≡ configured_passes f
+    from (Ok r) = at r.cfgr r.passes (derived_of r.cfgr)
+    from (Err u) = refl
 
 -- ---- a plan that is made
-module _ (c d : CFGR) (k : ℕ) (x : Clocks) (y : InternalRCCConfig) (e : plan_of c ≡ Ready d k x y) where
-  -- what it is made of
-  record Made : Type 0 where
-    plans : Settles c d k
-    unlimited : late_refusal d ≡ 0
-    clocks : clocks_of d ≡ x
-    config : config_of d ≡ y
+-- derive's answer, of clocks and codes
+abbrev derives : Clocks → InternalRCCConfig → Result Derived Refusal
+derives x y = Ok (record { clocks = x; config = y })
 
-  made : Made
+-- what a plan is made of
+record MadeOf (c d : CFGR) (k : ℕ) (x : Clocks) (y : InternalRCCConfig) : Type 0 where
+  plans : Settles c d k
+  unlimited : late_refusal d ≡ 0
+  clocks : clocks_of d ≡ x
+  config : config_of d ≡ y
+
+module _ (c d : CFGR) (k : ℕ) (x : Clocks) (y : InternalRCCConfig) (e : plan_of c ≡ plans d k x y) where
+  made : MadeOf c d k x y
   made = from (plan_of c) (plan_view c) e
     where
-      from : (p : Planned) → PlanView c p → p ≡ Ready d k x y → Made
+      of_it : Planned → Type 0
+      of_it p = MadeOf c p.cfgr p.passes p.derived.clocks p.derived.config
+
+      one : {p q : Planned} → ◌≡◌ {A = Result Planned Unplanned} (Ok p) (Ok q) → p ≡ q
+      one h = cc
+
+      from : (p : Result Planned Unplanned) → PlanView c p → p ≡ plans d k x y → MadeOf c d k x y
       from p (refused z) h = absurd (let z : ◌≡◌ {A = ℕ} 0 1 = cc in omega arith)
       from p (missed s g) h = absurd (let z : ◌≡◌ {A = ℕ} 0 1 = cc in omega arith)
       from p (limited a z) h = absurd (let z : ◌≡◌ {A = ℕ} 0 1 = cc in omega arith)
-      from p (ready {d = f} {k = j} a z) h =
-          let g : f ≡ d = cc in
-          let i : j ≡ k = cc in
-          record { plans = a ∙ both g i; unlimited = subst (λ (w : CFGR). late_refusal w ≡ 0) g z; clocks = cc; config = cc }
-        where
-          both : {a b : CFGR} {m n : ℕ} → a ≡ b → m ≡ n → Configures a m ≡ Configures b n
-          both p q = rw (p, q)
+      from p (ready a z) h = subst of_it (one h) (record { plans = a; unlimited = z; clocks = refl; config = refl })
 
   -- its configuration is pll_configure's, and nothing but the main PLL's settings has changed
   pub plan_is_configured : Settles c d k × Keeps c d
   plan_is_configured = (made.plans, planned_keeps c d k made.plans)
 
   -- its clocks and codes are what derive gives for it, so that what is promised of derive is promised of a plan
-  pub plan_is_derived : derived_of d ≡ At x y
+  pub plan_is_derived : derived_of d ≡ derives x y
   plan_is_derived = planned_derived c d k made.plans ∙ both made.clocks made.config
     where
-      both : {a b : Clocks} {m n : InternalRCCConfig} → a ≡ b → m ≡ n → At a m ≡ At b n
+      both : {a b : Clocks} {m n : InternalRCCConfig} → a ≡ b → m ≡ n → derives a m ≡ derives b n
       both p q = rw (p, q)
 
   -- planned again, it is the same plan; its passes are the same where its own search runs, else 0
-  pub plan_again : (Seeks d → plan_of d ≡ Ready d k x y) × ((Seeks d → ⊥) → plan_of d ≡ Ready d 0 x y)
+  pub plan_again : (Seeks d → plan_of d ≡ plans d k x y) × ((Seeks d → ⊥) → plan_of d ≡ plans d 0 x y)
   plan_again = (λ s. same k (again.0 s), λ s. same 0 (again.1 s))
     where
       again : (Seeks d → Settles d d k) × ((Seeks d → ⊥) → Settles d d 0)
       again = planned_again c d k made.plans
 
-      both : {a b : Clocks} {m n : InternalRCCConfig} (j : ℕ) → a ≡ b → m ≡ n → Ready d j a m ≡ Ready d j b n
+      both : {a b : Clocks} {m n : InternalRCCConfig} (j : ℕ) → a ≡ b → m ≡ n → plans d j a m ≡ plans d j b n
       both j p q = rw (p, q)
 
-      same : (j : ℕ) → Settles d d j → plan_of d ≡ Ready d j x y
+      same : (j : ℕ) → Settles d d j → plan_of d ≡ plans d j x y
       same j p = plan_of_lem d d j p made.unlimited ∙ both j made.clocks made.config
 
   -- ---- SYSCLK
@@ -215,7 +231,7 @@ module _ (c d : CFGR) (k : ℕ) (x : Clocks) (y : InternalRCCConfig) (e : plan_o
   sysclk_with_pll u = sysclk_is ∙ rw u
 
   -- planned by a P window, it is at most 1 Hz above what was wanted and at most 15 Hz below
-  pub sysclk_near : d.pll.use_pll ≡ true → (p_window_in c ≡ Absent → ⊥) → Near (wanted_in c) x.sysclk.0
+  pub sysclk_near : d.pll.use_pll ≡ true → (p_window_in c ≡ None → ⊥) → Near (wanted_in c) x.sysclk.0
   sysclk_near u w = rw (sysclk_with_pll u) (planned_near c d k made.plans u w)
 
   -- ---- PLLI2S after 11: its outputs with R and Q are at most 216 MHz, so that the Rust's asserts on them can't fail

@@ -4,74 +4,36 @@
 mod limits;
 
 ghost use Rattle.std.specs.Prelude.{◌≡◌};
-ghost use Rattle.clocks.specs.Derive.{derived_of};
-ghost use Rattle.plan.specs.Plan.{limited_of, clocked_of, plan_of};
+ghost use Rattle.plan.specs.Plan.{plan_of};
 
-use clocks::{Clocks, Derived, InternalRCCConfig, calculate_clocks};
-use configure::{Configured, pll_configure};
+use clocks::{Derived, calculate_clocks};
+use configure::{Configured, Unplanned, pll_configure};
 use kinds::CFGR;
-use limits::late_refusal;
+use limits::check_late;
 
-// A refusal of 1 to 7 or 9 to 11, or the configuration as planned with its clocks and their field codes; and the passes of the
-// search wherever one ran.
-#[derive(Clone, Copy)]
-pub enum Planned {
-    Refused {
-        number: u8,
-        passes: u32,
-    },
-    Ready {
-        cfgr: CFGR,
-        passes: u32,
-        clocks: Clocks,
-        config: InternalRCCConfig,
-    },
+// The configuration as planned, with its clocks and their field codes; and the passes of the search, 0 where none ran.
+#[derive(Clone, Copy, PartialEq, Eq)]
+pub struct Planned {
+    pub cfgr: CFGR,
+    pub passes: u32,
+    pub derived: Derived,
 }
 
-// A plan whose PLLSAI and PLLI2S were found to be refused with a number, or with 0.
-fn limited(cfgr: CFGR, passes: u32, clocks: Clocks, config: InternalRCCConfig, late: u8) -> Planned
-    ensures { result ≡ limited_of cfgr passes clocks config late }
-{
-    if late == 0 {
-        Planned::Ready {
-            cfgr: cfgr,
-            passes: passes,
-            clocks: clocks,
-            config: config,
-        }
-    } else {
-        Planned::Refused {
-            number: late,
-            passes: passes,
-        }
-    }
-}
-
-// The plan of a configuration whose main PLL is settled.
-fn clocked(cfgr: CFGR, passes: u32) -> Planned
-    ensures { result ≡ clocked_of cfgr passes (derived_of cfgr) }
-{
-    match calculate_clocks(cfgr) {
-        Derived::Refused(number) => Planned::Refused {
-            number: number,
-            passes: passes,
-        },
-        Derived::At { clocks, config } => limited(cfgr, passes, clocks, config, late_refusal(cfgr)),
-    }
-}
-
-// The configuration as planned, with its clocks; nothing is stored.
-pub fn plan(cfgr: CFGR) -> Planned
+// The plan, or a refusal of 1 to 7 or 9 to 11; nothing is stored.
+#[tactic(auto, unfolding(crate::specs::Plan::plan_of, crate::specs::Plan::planned_of, crate::specs::Plan::clocked_of, crate::specs::Plan::limited_of, kinds::specs::Refusals::unless))]
+pub fn plan(cfgr: CFGR) -> Result<Planned, Unplanned>
     ensures { result ≡ plan_of cfgr }
 {
-    match pll_configure(cfgr) {
-        Configured::Refused { number, passes } => Planned::Refused {
-            number: number,
-            passes: passes,
-        },
-        Configured::Ready {
-            cfgr: planned,
-            passes,
-        } => clocked(planned, passes),
-    }
+    let Configured {
+        cfgr: planned,
+        passes,
+    } = pll_configure(cfgr)?;
+    let unplanned = |refusal| Unplanned { refusal, passes };
+    let derived = calculate_clocks(planned).map_err(unplanned)?;
+    check_late(planned).map_err(unplanned)?;
+    Ok(Planned {
+        cfgr: planned,
+        passes,
+        derived,
+    })
 }

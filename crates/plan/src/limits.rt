@@ -1,76 +1,64 @@
 // Refusals 9 to 11: the VCOs of PLLSAI and PLLI2S and PLLSAI's P output, with the M planned and the input as it is.
-ghost use Rattle.std.specs.Prelude.{◌≡◌, ◌≤◌};
-ghost use Rattle.kinds.specs.Limits.{outside_of};
+ghost use Rattle.std.specs.Prelude.{◌≡◌, ◌<◌};
+ghost use Rattle.kinds.specs.Refusals.{unless};
 ghost use Rattle.kinds.specs.Table.{Checked};
 ghost use Rattle.plan.specs.Plan.{rough_of, sai_late, i2s_late, late_refusal};
 
-use kinds::codes::p_divider;
-use kinds::limits::first_of;
-use kinds::{CFGR, Divider, Factor, Hertz, I2s, Sai};
+use kinds::limits::within;
+use kinds::{CFGR, Divider, Factor, Hertz, I2s, Refusal, Sai, input_of};
 
-// floor(input/M) × N: the input is not cut to a multiple of 16.
-fn rough(input: Hertz, m: Divider, n: Factor) -> u64
-    requires { (input.0 ≤ 50000000) × (2 ≤ m.0) × (n.0 ≤ 432) }
-    ensures { result ≡ rough_of input.0 m.0 n.0 }
-{
-    (input.0 / m.0) as u64 * n.0 as u64
+// What the two VCOs are made of beside their N.
+#[derive(Clone, Copy)]
+struct Base {
+    input: Hertz,
+    m: Divider,
+    ghost divides: { 0 < m.0 },
 }
 
-// The refusal k where x lies outside lo to hi, else 0.
-fn beyond(lo: u64, hi: u64, k: u8, x: u64) -> u8
-    ensures { result ≡ outside_of lo hi k x }
-{
-    if x < lo {
-        k
-    } else if hi < x {
-        k
-    } else {
-        0
+impl Base {
+    // floor(input/M) × N: the input is not cut to a multiple of 16.
+    #[tactic(auto, unfolding(crate::specs::Plan::rough_of))]
+    fn rough(self, n: Factor) -> u64
+        ensures { result ≡ rough_of self.input.0 self.m.0 n.0 }
+    {
+        (self.input.0 / self.m.0) as u64 * n.0 as u64
+    }
+
+    #[tactic(auto, unfolding(crate::specs::Plan::sai_late, kinds::specs::Refusals::unless, kinds::specs::Limits::first_refusal))]
+    fn check_sai(self, sai: Sai) -> Result<(), Refusal>
+        ensures { result ≡ unless (sai_late self.input.0 self.m.0 sai) tt }
+    {
+        if !sai.use_pllsai {
+            return Ok(());
+        }
+        let vco = self.rough(sai.n);
+        within(192000000, 432000000, Refusal::PllsaiVco, vco)?;
+        let hertz = vco / Divider::from(sai.p).0 as u64;
+        within(0, 48000000, Refusal::PllsaiP, hertz)
+    }
+
+    #[tactic(auto, unfolding(crate::specs::Plan::i2s_late, kinds::specs::Refusals::unless))]
+    fn check_i2s(self, i2s: I2s) -> Result<(), Refusal>
+        ensures { result ≡ unless (i2s_late self.input.0 self.m.0 i2s) tt }
+    {
+        if !i2s.use_plli2s {
+            return Ok(());
+        }
+        within(192000000, 432000000, Refusal::Plli2sVco, self.rough(i2s.n))
     }
 }
 
-fn sai_late(input: Hertz, m: Divider, sai: Sai) -> u8
-    requires { (input.0 ≤ 50000000) × (2 ≤ m.0) × (sai.n.0 ≤ 432) }
-    ensures { result ≡ sai_late input.0 m.0 sai }
-{
-    let p = sai.p;
-    let n = sai.n;
-    if sai.use_pllsai {
-        let vco = rough(input, m, n);
-        let d = p_divider(p);
-        let hertz = vco / d.0 as u64;
-        first_of(
-            beyond(192000000, 432000000, 9, vco),
-            beyond(0, 48000000, 10, hertz),
-        )
-    } else {
-        0
-    }
-}
-
-fn i2s_late(input: Hertz, m: Divider, i2s: I2s) -> u8
-    requires { (input.0 ≤ 50000000) × (2 ≤ m.0) × (i2s.n.0 ≤ 432) }
-    ensures { result ≡ i2s_late input.0 m.0 i2s }
-{
-    let n = i2s.n;
-    if i2s.use_plli2s {
-        beyond(192000000, 432000000, 11, rough(input, m, n))
-    } else {
-        0
-    }
-}
-
-// The first in turn of 9 to 11 that a configuration as planned is refused with, or 0.
-pub(crate) fn late_refusal(cfgr: CFGR) -> u8
+// Refused with the first in turn of 9 to 11 that a configuration as planned gives. What it asks stands in a clause: no other function
+// here asks it.
+#[tactic(auto, using(crate::proofs::Planning::m_divides), unfolding(crate::specs::Plan::late_refusal, kinds::specs::Refusals::unless, kinds::specs::Limits::first_refusal))]
+pub(crate) fn check_late(cfgr: CFGR) -> Result<(), Refusal>
     requires { Checked cfgr }
-    ensures { result ≡ late_refusal cfgr }
+    ensures { result ≡ unless (late_refusal cfgr) tt }
 {
-    let sources = cfgr.sources;
-    let hse = sources.hse;
-    let pll = cfgr.pll;
-    let m = pll.m;
-    let sai = cfgr.sai;
-    let i2s = cfgr.i2s;
-    let input = kinds::input_of(hse);
-    first_of(sai_late(input, m, sai), i2s_late(input, m, i2s))
+    let base = Base {
+        input: input_of(cfgr.sources.hse),
+        m: cfgr.pll.m,
+    };
+    base.check_sai(cfgr.sai)?;
+    base.check_i2s(cfgr.i2s)
 }

@@ -1,16 +1,14 @@
 -- What a piece answers and leaves, when it is the last, and that nothing past the last record that may be read is asked for.
 use Prim.Native.Nat.{ℕ, ◌+◌, ◌-◌, ◌*◌, ◌/◌, ◌<◌, ◌≤◌}
-use mathlib.Core.Path.{◌≡◌, refl, sym, ◌∙◌, ap, subst}
+use mathlib.Core.Path.{◌≡◌, refl, sym, ◌∙◌}
 use mathlib.Core.Logic.{◌⊎◌, inl, inr, ◌↔◌}
-use mathlib.Core.Bool.{Bool, true, false, cond, not, true≢false, false≢true}
+use mathlib.Core.Bool.{Bool, true, false, cond, not, true≢false}
 use mathlib.Core.List.{List}
 use native.Mathlib.Omega.{arith}
 use lib.Dec.{ltb}
-use lib.ListN.{take}
-use borrow.Author.Tests.{ltb-true, ltb-false, lt-ltb, le-ltb}
+use borrow.Author.Tests.{ltb-true, ltb-false, lt-ltb}
 use Rattle.record.specs.Places.{RECORD}
-use Rattle.planner.specs.Output.{text_of, Holds}
-use Rattle.planner.specs.Asking.{asked_of, answered_of, rest_of, Took, Stepped, Asked, last, more}
+use Rattle.planner.specs.Asking.{asked_of, answered_of, rest_of, Stepped, Asked, last, more}
 use Rattle.planner.specs.declared.Taken.{Taken}
 use Rattle.planner.specs.declared.Piece.{Piece}
 
@@ -23,17 +21,9 @@ answered_within t = by t.failed
     by false = omega arith
 
 -- ---- what is left after a piece
-pub rest_unwritten : (left want got : ℕ) (w : Bool) → not w ≡ true → 0 ≡ rest_of left want got w
-rest_unwritten left want got false e = refl
-rest_unwritten left want got true e = absurd (false≢true e)
-
 pub rest_short : (left want got : ℕ) (w : Bool) → not w ≡ false → got < want → 0 ≡ rest_of left want got w
 rest_short left want got false e h = absurd (true≢false e)
 rest_short left want got true e h = rw (lt-ltb got want h) refl
-
-pub rest_whole : (left want got : ℕ) (w : Bool) → not w ≡ false → want ≤ got → left - got / RECORD ≡ rest_of left want got w
-rest_whole left want got false e h = absurd (true≢false e)
-rest_whole left want got true e h = rw (le-ltb got want h) refl
 
 -- fewer than before
 pub rest_less : (left got : ℕ) (w : Bool) → 0 < left → got ≤ asked_of left → rest_of left (asked_of left) got w < left
@@ -45,15 +35,6 @@ rest_less left got true h i = by (ltb got (asked_of left)) refl
     by false e = let g = ltb-false got (asked_of left) e in omega arith
 
 -- ---- a piece
--- what `step` is made of
-pub stepped : {left want got rest : ℕ} {written : Bool} {input out : List ℕ} {t : Taken} → want ≡ asked_of left → Took want t → got ≡ answered_of t
-    → Holds out (text_of (take got input)) → rest ≡ rest_of left want got written → Stepped left input out (record { taken = t; written = written; left = rest })
-stepped {left} {want} {got} {rest} {written} {input} {out} {t} e s g h r = record {
-  took = subst (λ (w : ℕ). Took w t) e s;
-  text = subst (λ (n : ℕ). Holds out (text_of (take n input))) g h;
-  rest = r ∙ ap (λ (w : ℕ). rest_of left w got written) e ∙ ap (λ (n : ℕ). rest_of left (asked_of left) n written) g;
-}
-
 module _ {left : ℕ} {input out : List ℕ} {p : Piece} (s : Stepped left input out p) where
   answered : answered_of p.taken ≤ asked_of left
   answered = let a = answered_within p.taken in omega (arith, s.took.within)

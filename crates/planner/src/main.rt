@@ -13,11 +13,14 @@ use record::RECORD;
 use std::io::{Print, Read, Stderr, Stdin, Stdout};
 
 // The records that are read at most, and the bytes of a piece, 1,024 of them.
-const RECORDS: usize = 1000000;
+const RECORDS: usize = 1_000_000;
 
 const PIECE: usize = 65536;
 
-// What a piece is read from, its text written to, and what is wrong told on.
+// Places for 1,025 lines of 157 bytes: those of a piece, and that of a tail.
+const TEXT: usize = 160925;
+
+// What a piece is read from, its text written to, and what is wrong told on. Not generic: the runtime has one stream of each kind.
 #[derive(Clone, Copy)]
 struct Streams {
     stdin: Stdin,
@@ -25,14 +28,15 @@ struct Streams {
     stderr: Stderr,
 }
 
-// How many bytes came in, and whether a read failed: then no more is read.
+// How many bytes came in, and whether a read failed: then no more is read. No Result: what came in before is answered too.
 #[derive(Clone, Copy)]
 struct Taken {
     got: usize,
     failed: bool,
 }
 
-// What a piece came to: what came in, whether its text was written, and how many records may still be read.
+// What a piece came to: what came in, whether its text was written, and how many records may still be read. No Result: what came in
+// and what is left are told also where the text was not written.
 #[derive(Clone, Copy)]
 struct Piece {
     taken: Taken,
@@ -40,42 +44,20 @@ struct Piece {
     left: usize,
 }
 
-fn read_some(mut stdin: Stdin, input: &mut [u8], from: usize, to: usize) -> Taken
-    requires { (from < to) × (to ≤ length input.old) }
-    ensures { Took (to - from) result }
-{
-    match stdin.read(&mut input[from..to]) {
-        Ok(got) => Taken {
-            got: got,
-            failed: false,
-        },
-        Err(_) => Taken {
-            got: 0,
-            failed: true,
-        },
-    }
-}
-
-// Reads until so many bytes are in, the input ends or a read fails.
-fn take_in(stdin: Stdin, input: &mut [u8], want: usize) -> Taken
+// Reads until so many bytes are in, the input ends or a read fails. By `while`: each read brings as many bytes as it will.
+fn take_in(mut stdin: Stdin, input: &mut [u8], want: usize) -> Taken
     requires { want ≤ length input.old }
     ensures { Took want result }
 {
-    let mut done = 0;
-    while done < want {
-        let some = read_some(stdin, input, done, want);
-        if some.got == 0 {
-            return Taken {
-                got: done,
-                failed: some.failed,
-            };
+    let mut got = 0;
+    while got < want {
+        match stdin.read(&mut input[got..want]) {
+            Ok(0) => break,
+            Ok(some) => got += some,
+            Err(_) => return Taken { got, failed: true },
         }
-        done += some.got;
     }
-    Taken {
-        got: done,
-        failed: false,
-    }
+    Taken { got, failed: false }
 }
 
 // The bytes that are answered: all that came in or, after a failed read, the whole records among them.
@@ -93,14 +75,11 @@ fn wanted(left: usize) -> usize
     requires { left ≤ 1000000 }
     ensures { result ≡ asked_of left }
 {
-    if RECORD * left < PIECE {
-        RECORD * left
-    } else {
-        PIECE
-    }
+    PIECE.min(RECORD * left)
 }
 
-// Writes the text of the bytes that came in. No contract can say what a read or a write moved: out holds what is handed over.
+// Writes the text of the bytes that came in, which are counted into the one buffer. No contract can say what a read or a write moved:
+// out holds what is handed over.
 fn write_lines(stdout: Stdout, input: &[u8], got: usize, out: &mut [u8]) -> bool
     requires { (got ≤ length input.now) × (line.LINE * (got / places.RECORD + 1) ≤ length out.old) }
     ensures { Holds out.new (text_of (take got input.now)) }
@@ -114,19 +93,10 @@ fn left_after(left: usize, want: usize, got: usize, written: bool) -> usize
     requires { got ≤ places.RECORD * left }
     ensures { result ≡ rest_of left want got written }
 {
-    if !written {
-        return 0;
-    }
-    if got < want {
-        return 0;
-    }
-    left - got / RECORD
-}
-
-// A line on standard error, if something is wrong.
-fn complain(stderr: Stderr, wrong: bool, line: &[u8]) {
-    if wrong {
-        let _ = stderr.write_all(line);
+    if !written || got < want {
+        0
+    } else {
+        left - got / RECORD
     }
 }
 
@@ -138,36 +108,22 @@ fn step(streams: Streams, input: &mut [u8], out: &mut [u8], left: usize) -> Piec
     let want = wanted(left);
     let taken = take_in(streams.stdin, input, want);
     let got = answered(taken);
-    complain(
-        streams.stderr,
-        taken.failed,
-        b"planner: standard input could not be read\n",
-    );
+    if taken.failed {
+        let _ = streams
+            .stderr
+            .write_all(b"planner: standard input could not be read\n");
+    }
     let written = write_lines(streams.stdout, input, got, out);
-    complain(
-        streams.stderr,
-        !written,
-        b"planner: standard output could not be written\n",
-    );
+    if !written {
+        let _ = streams
+            .stderr
+            .write_all(b"planner: standard output could not be written\n");
+    }
     Piece {
-        taken: taken,
-        written: written,
+        taken,
+        written,
         left: left_after(left, want, got, written),
     }
-}
-
-// Places for a piece.
-fn piece_buffer() -> [u8; 65536]
-    ensures { 65536 ≡ length result }
-{
-    [0; 65536]
-}
-
-// Places for 1,025 lines of 157 bytes: those of a piece, and that of a tail.
-fn line_buffer() -> [u8; 160925]
-    ensures { 160925 ≡ length result }
-{
-    [0; 160925]
 }
 
 fn main(rt: HostRuntime) {
@@ -176,13 +132,13 @@ fn main(rt: HostRuntime) {
         stdout: rt.stdout(),
         stderr: rt.stderr(),
     };
-    let mut bytes = piece_buffer();
-    let mut text = line_buffer();
+    let mut bytes = [0; PIECE];
+    let mut text = [0; TEXT];
     let input: &mut [u8] = &mut bytes;
     let out: &mut [u8] = &mut text;
     let mut left = RECORDS;
+    // By `while`: how many records a piece has is known when it has come in.
     while left > 0 {
-        let piece = step(streams, input, out, left);
-        left = piece.left;
+        left = step(streams, input, out, left).left;
     }
 }

@@ -4,19 +4,20 @@ use mathlib.Core.Path.{◌≡◌, subst}
 use mathlib.Core.Logic.{inl, inr, ⊎_elim}
 use native.Mathlib.Omega.{arith}
 use Rattle.pll.specs.Good.{GoodPair, NotBefore}
+use Rattle.std.specs.Prelude.{Option}
 use Rattle.pll.specs.declared.Window.{Window}
 use Rattle.pll.specs.declared.Look.TheVariants.{Refuse, NextM, NextN}
 use Rattle.pll.proofs.Reciprocal.{vco_grows}
 use Rattle.pll.proofs.Dividers.{split, at_least, less_than}
 use Rattle.pll.proofs.Looks.{Looked, past, low, high, end, slow, fast, missed_p, missed_q}
 
-abbrev pub Ahead : ℕ → Window → Window → ℕ → ℕ → Type 0
+abbrev pub Ahead : ℕ → Option Window → Option Window → ℕ → ℕ → Type 0
 Ahead f p q m n = (M N : ℕ) → GoodPair f p q M N → NotBefore m n M N
 
-pub ahead_start : (f : ℕ) (p q : Window) → Ahead f p q 2 432
+pub ahead_start : (f : ℕ) (p q : Option Window) → Ahead f p q 2 432
 ahead_start f p q M N g = ⊎_elim (λ (a : 2 < M). inl a) (λ (a : M ≤ 2). inr (omega (arith, g.m_low), g.n_high)) (split 2 M)
 
-module _ (f : ℕ) (p q : Window) (m n : ℕ) (pos : 2 ≤ m) (ahead : Ahead f p q m n) where
+module _ (f : ℕ) (p q : Option Window) (m n : ℕ) (pos : 2 ≤ m) (ahead : Ahead f p q m n) where
   -- a good pair at this very M, read at m
   here : (M N : ℕ) → M ≡ m → GoodPair f p q M N → GoodPair f p q m N
   here M N e g = subst (λ (x : ℕ). GoodPair f p q x N) e g

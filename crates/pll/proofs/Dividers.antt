@@ -14,13 +14,9 @@ use Rattle.pll.specs.Skip.{dividers_of, highest, fit, end}
 use Rattle.pll.specs.Good.{Among, Hits, Fitting, Chosen}
 use Rattle.kinds.specs.declared.Divider.{Divider}
 use Rattle.pll.specs.declared.Window.{Window}
-use Rattle.pll.specs.declared.Window.TheVariants.{Absent, Within}
-use Rattle.pll.specs.declared.Sought.{Sought}
-use Rattle.pll.specs.declared.Sought.TheVariants.{Unasked, By}
 use Rattle.pll.specs.declared.Side.{Side}
 use Rattle.pll.specs.declared.Side.TheVariants.{P, Q}
-use Rattle.pll.specs.declared.Seek.{Seek}
-use Rattle.pll.specs.declared.Seek.TheVariants.{Missed, Had}
+use Rattle.std.specs.Prelude.{Option, Some, None}
 use Rattle.pll.proofs.Outputs.{inside_told, inside_test}
 
 -- ---- two numbers in order, one way or the other
@@ -87,17 +83,17 @@ among_pos (d ∷ ds) fa x (inl h) = subst (λ (y : ℕ). 0 < y) (sym h) (head_po
 among_pos (d ∷ ds) fa x (inr h) = among_pos ds (tail_falls d ds fa) x h
 
 -- ---- the first divider that fits: at the list's head, or further on
-first_here : (d : ℕ) (ds : List ℕ) (lo hi v : ℕ) → inside lo hi (v / d) ≡ true → first (d ∷ ds) lo hi v ≡ Had (By (record { 0 = d }))
+first_here : (d : ℕ) (ds : List ℕ) (lo hi v : ℕ) → inside lo hi (v / d) ≡ true → first (d ∷ ds) lo hi v ≡ Some (Some (record { 0 = d }))
 unfolding first
-first_here d ds lo hi v e = ap (λ (b : Bool). elim b [ true ↦ Had (By (record { 0 = d })) | false ↦ first ds lo hi v ]) e
+first_here d ds lo hi v e = ap (λ (b : Bool). elim b [ true ↦ Some (Some (record { 0 = d })) | false ↦ first ds lo hi v ]) e
 
 first_next : (d : ℕ) (ds : List ℕ) (lo hi v : ℕ) → inside lo hi (v / d) ≡ false → first (d ∷ ds) lo hi v ≡ first ds lo hi v
 unfolding first
-first_next d ds lo hi v e = ap (λ (b : Bool). elim b [ true ↦ Had (By (record { 0 = d })) | false ↦ first ds lo hi v ]) e
+first_next d ds lo hi v e = ap (λ (b : Bool). elim b [ true ↦ Some (Some (record { 0 = d })) | false ↦ first ds lo hi v ]) e
 
-data FirstView (ds : List ℕ) (lo hi v : ℕ) : Seek → Type 0 where
-  none_fits : ((d : ℕ) → Among d ds → Hits lo hi v d → ⊥) → FirstView ds lo hi v Missed
-  largest_fits : (e : Divider) → Among e.0 ds → Hits lo hi v e.0 → ((d : ℕ) → Among d ds → Hits lo hi v d → d ≤ e.0) → FirstView ds lo hi v (Had (By e))
+data FirstView (ds : List ℕ) (lo hi v : ℕ) : Option (Option Divider) → Type 0 where
+  none_fits : ((d : ℕ) → Among d ds → Hits lo hi v d → ⊥) → FirstView ds lo hi v None
+  largest_fits : (e : Divider) → Among e.0 ds → Hits lo hi v e.0 → ((d : ℕ) → Among d ds → Hits lo hi v d → d ≤ e.0) → FirstView ds lo hi v (Some (Some e))
 
 module _ (d : ℕ) (ds : List ℕ) (lo hi v : ℕ) (fa : T (falling (d ∷ ds))) where
   view_here : inside lo hi (v / d) ≡ true → FirstView (d ∷ ds) lo hi v (first (d ∷ ds) lo hi v)
@@ -112,12 +108,12 @@ module _ (d : ℕ) (ds : List ℕ) (lo hi v : ℕ) (fa : T (falling (d ∷ ds)))
       not_here : Hits lo hi v d → ⊥
       not_here h = true≢false (sym (inside_test lo hi (v / d) h.low h.high) ∙ e)
 
-      onward : (s : Seek) → FirstView ds lo hi v s → FirstView (d ∷ ds) lo hi v s
-      onward Missed (none_fits g) =
+      onward : (s : Option (Option Divider)) → FirstView ds lo hi v s → FirstView (d ∷ ds) lo hi v s
+      onward None (none_fits g) =
           none_fits (λ x a h. ⊎_elim (λ (b : x ≡ d). not_here (subst (λ (y : ℕ). Hits lo hi v y) b h)) (λ (b : Among x ds). g x b h) a)
-      onward (Had (By r)) (largest_fits r₁ a h g) =
+      onward (Some (Some r)) (largest_fits r₁ a h g) =
           largest_fits r (inr a) h (λ x b k. ⊎_elim (λ (y : x ≡ d). absurd (not_here (subst (λ (z : ℕ). Hits lo hi v z) y k))) (λ (y : Among x ds). g x y k) b)
-      onward (Had Unasked) x = elim x [ ]
+      onward (Some None) x = elim x [ ]
 
   view_cons : FirstView ds lo hi v (first ds lo hi v) → (t : Bool) → inside lo hi (v / d) ≡ t → FirstView (d ∷ ds) lo hi v (first (d ∷ ds) lo hi v)
   view_cons w true e = view_here e
@@ -129,23 +125,23 @@ first_view [] lo hi v fa = none_fits (λ d a h. a)
 first_view (d ∷ ds) lo hi v fa = view_cons d ds lo hi v fa (first_view ds lo hi v (tail_falls d ds fa)) (inside lo hi (v / d)) refl
 
 -- ---- what seeking comes to
-pub data SeekView (ds : List ℕ) (w : Window) (v : ℕ) : Seek → Type 0 where
-  missed : (Fitting ds w v → ⊥) → SeekView ds w v Missed
-  had : (a : Sought) → Chosen ds w v a → SeekView ds w v (Had a)
+pub data SeekView (ds : List ℕ) (w : Option Window) (v : ℕ) : Option (Option Divider) → Type 0 where
+  missed : (Fitting ds w v → ⊥) → SeekView ds w v None
+  had : (a : Option Divider) → Chosen ds w v a → SeekView ds w v (Some a)
 
-pub seek_view : (ds : List ℕ) (w : Window) (v : ℕ) → T (falling ds) → SeekView ds w v (seek ds w v)
+pub seek_view : (ds : List ℕ) (w : Option Window) (v : ℕ) → T (falling ds) → SeekView ds w v (seek ds w v)
 unfolding seek
-seek_view ds Absent v fa = had Unasked refl
-seek_view ds (Within lo hi) v fa = from (first ds lo.0 hi.0 v) (first_view ds lo.0 hi.0 v fa)
+seek_view ds None v fa = had None refl
+seek_view ds (Some w) v fa = from (first ds w.lo.0 w.hi.0 v) (first_view ds w.lo.0 w.hi.0 v fa)
   where
-    from : (s : Seek) → FirstView ds lo.0 hi.0 v s → SeekView ds (Within lo hi) v s
-    from Missed (none_fits g) = missed (λ x. g x.0 x.1 x.2)
-    from (Had (By r)) (largest_fits r₁ a h g) = had (By r) (r, refl, a, h, g)
-    from (Had Unasked) x = elim x [ ]
+    from : (s : Option (Option Divider)) → FirstView ds w.lo.0 w.hi.0 v s → SeekView ds (Some w) v s
+    from None (none_fits g) = missed (λ x. g x.0 x.1 x.2)
+    from (Some (Some r)) (largest_fits r₁ a h g) = had (Some r) (r, refl, a, h, g)
+    from (Some None) x = elim x [ ]
 
-pub chosen_fits : (ds : List ℕ) (w : Window) (v : ℕ) (s : Sought) → Chosen ds w v s → Fitting ds w v
-chosen_fits ds Absent v s h = tt
-chosen_fits ds (Within lo hi) v s h = (h.0.0, h.2, h.3)
+pub chosen_fits : (ds : List ℕ) (w : Option Window) (v : ℕ) (s : Option Divider) → Chosen ds w v s → Fitting ds w v
+chosen_fits ds None v s h = tt
+chosen_fits ds (Some w) v s h = (h.0.0, h.2, h.3)
 
 -- ---- the largest divider that is not below the window
 pub highest_here : (d : ℕ) (ds : List ℕ) (lo v : ℕ) → lo * d ≤ v → highest (d ∷ ds) lo v ≡ d
@@ -182,11 +178,11 @@ highest_none (d ∷ ds) lo v all = highest_next d ds lo v (all d (inl refl)) ∙
 
 -- ---- by it, what the first divider that fits is
 module _ (hi d v : ℕ) where
-  pub fits : v < (hi + 1) * d → fit hi d v ≡ Had (By (record { 0 = d }))
+  pub fits : v < (hi + 1) * d → fit hi d v ≡ Some (Some (record { 0 = d }))
   unfolding fit
   fits h = simp (lt-ltb _ _ h)
 
-  pub too_far : (hi + 1) * d ≤ v → fit hi d v ≡ Missed
+  pub too_far : (hi + 1) * d ≤ v → fit hi d v ≡ None
   unfolding fit
   too_far h = simp (le-ltb _ _ h)
 
@@ -207,7 +203,7 @@ inside_both lo hi v d pos a b =
     inside_test lo hi (v / d) (quotient_least v d lo pos a) (omega arith)
 
 -- where a divider puts v above the window, so does each smaller one
-all_above : (ds : List ℕ) (lo hi v d : ℕ) → T (under d ds) → T (falling ds) → (hi + 1) * d ≤ v → first ds lo hi v ≡ Missed
+all_above : (ds : List ℕ) (lo hi v d : ℕ) → T (under d ds) → T (falling ds) → (hi + 1) * d ≤ v → first ds lo hi v ≡ None
 unfolding first
 all_above [] lo hi v d u fa h = refl
 all_above (e ∷ es) lo hi v d u fa h =
@@ -215,7 +211,7 @@ all_above (e ∷ es) lo hi v d u fa h =
     first_next e es lo hi v (outside_above lo hi v e (head_pos e es fa) (le_trans g h))
     ∙ all_above es lo hi v d (and_right (leb e d) (under d es) u) (tail_falls e es fa) h
 
-pub first_fit : (ds : List ℕ) (lo hi v : ℕ) → T (falling ds) → first ds lo hi v ≡ fit hi (highest ds lo v) v
+first_fit : (ds : List ℕ) (lo hi v : ℕ) → T (falling ds) → first ds lo hi v ≡ fit hi (highest ds lo v) v
 unfolding first highest
 first_fit [] lo hi v fa = sym (too_far hi 0 v (omega arith))
 first_fit (d ∷ ds) lo hi v fa =
@@ -233,15 +229,15 @@ first_fit (d ∷ ds) lo hi v fa =
         (split v ((hi + 1) * d))
 
 -- ---- each VCO up to v that fits lies below the window's end
-pub end_bound : (ds : List ℕ) (w : Window) (v x : ℕ) → T (falling ds) → x ≤ v → x < 432000001 → Fitting ds w x → x < end ds w v
+pub end_bound : (ds : List ℕ) (w : Option Window) (v x : ℕ) → T (falling ds) → x ≤ v → x < 432000001 → Fitting ds w x → x < end ds w v
 unfolding end
-end_bound ds Absent v x fa le top h = top
-end_bound ds (Within lo hi) v x fa le top h =
+end_bound ds None v x fa le top h = top
+end_bound ds (Some w) v x fa le top h =
     let d = h.0 in
     let pos = among_pos ds fa d h.1 in
-    let a : lo.0 * d ≤ x = at_least x d lo.0 pos h.2.low in
-    let b : x < (hi.0 + 1) * d = less_than x d (hi.0 + 1) pos (omega (arith, h.2.high)) in
-    let g : (hi.0 + 1) * d ≤ (hi.0 + 1) * highest ds lo.0 v = mul-le-mul_left (hi.0 + 1) (highest_top ds lo.0 v fa d h.1 (omega arith)) in
+    let a : w.lo.0 * d ≤ x = at_least x d w.lo.0 pos h.2.low in
+    let b : x < (w.hi.0 + 1) * d = less_than x d (w.hi.0 + 1) pos (omega (arith, h.2.high)) in
+    let g : (w.hi.0 + 1) * d ≤ (w.hi.0 + 1) * highest ds w.lo.0 v = mul-le-mul_left (w.hi.0 + 1) (highest_top ds w.lo.0 v fa d h.1 (omega arith)) in
     omega arith
 
 -- ---- the Q dividers are the numbers from 15 down to 2
@@ -264,6 +260,9 @@ down_low (suc (suc k)) d (inr h) = down_low (suc k) d h
 
 -- the largest Q that is not below the window, by one division
 module _ (lo v : ℕ) where
+  pub highest_q_top : lo * 15 ≤ v → 15 ≡ highest q_dividers lo v
+  highest_q_top a = sym (highest_here 15 _ lo v a)
+
   pub highest_q_quotient : v < lo * 15 → 2 ≤ v / lo → v / lo ≡ highest q_dividers lo v
   highest_q_quotient a b =
       let pos : 0 < lo = omega arith in
@@ -275,10 +274,12 @@ module _ (lo v : ℕ) where
       let pos : 0 < lo = omega arith in
       sym (highest_none q_dividers lo v (λ x g. rw (mul_comm lo x) ((div-lt_iff_lt-mul pos).0 (let h = down_low 15 x g in omega arith))))
 
-  pub highest_q_small : v < lo * 15 → v / lo < 15
-  highest_q_small a = let pos : 0 < lo = omega arith in (div-lt_iff_lt-mul pos).1 (rw (mul_comm 15 lo) a)
+pub ruleset highest_q = (highest_q_top, highest_q_quotient, highest_q_none)
 
 -- ---- both lists fall
-pub dividers_fall : (s : Side) → T (falling (dividers_of s))
+dividers_fall : (s : Side) → T (falling (dividers_of s))
 dividers_fall P = tt
 dividers_fall Q = tt
+
+pub side_fit : (s : Side) (lo hi v : ℕ) → first (dividers_of s) lo hi v ≡ fit hi (highest (dividers_of s) lo v) v
+side_fit s lo hi v = first_fit (dividers_of s) lo hi v (dividers_fall s)

@@ -1,25 +1,25 @@
--- What a look at a pair tells: one view over the answers of a look, made once by going through its tests.
-use Prim.Native.Nat.{ℕ, ◌/◌, ◌≤◌, ◌<◌}
-use mathlib.Core.Path.{◌≡◌, subst}
+-- What a look at a pair tells: one view over its answers, made once by going through its tests; and what the code's tests of one come to.
+use Prim.Native.Nat.{ℕ, ◌*◌, ◌/◌, ◌≤◌, ◌<◌}
+use mathlib.Core.Path.{◌≡◌, subst, sym, ◌∙◌}
+use native.Mathlib.Omega.{arith}
 use mathlib.Core.Logic.{⊎_elim}
 use borrow.Author.Tests.{lt-ltb, le-ltb}
 use Rattle.pll.specs.Fixed.{vco_of}
 use Rattle.pll.specs.Walk.{seek, join, judge, look, p_dividers, q_dividers}
 use Rattle.pll.specs.Good.{Fitting, Chosen}
+use Rattle.std.specs.Prelude.{Option, Some, None}
+use Rattle.kinds.specs.declared.Divider.{Divider}
 use Rattle.pll.specs.declared.Window.{Window}
-use Rattle.pll.specs.declared.Sought.{Sought}
-use Rattle.pll.specs.declared.Seek.{Seek}
-use Rattle.pll.specs.declared.Seek.TheVariants.{Missed, Had}
 use Rattle.pll.specs.declared.Look.{Look}
 use Rattle.pll.specs.declared.Look.TheVariants.{Refuse, NextM, NextN, Good}
-use Rattle.pll.proofs.Dividers.{split, SeekView, missed, had, seek_view}
+use Rattle.pll.proofs.Dividers.{split, quotient_least, quotient_below, SeekView, missed, had, seek_view}
 
 -- the last M that is looked at
 abbrev pub last_m : ℕ
 last_m = 63
 
 -- ---- what a look comes to, by its tests
-module _ (f : ℕ) (p q : Window) (m n : ℕ) where
+module _ (f : ℕ) (p q : Option Window) (m n : ℕ) where
   pub look_past : last_m < m → look f p q m n ≡ Refuse
   unfolding look
   look_past a = simp (lt-ltb _ _ a)
@@ -40,7 +40,7 @@ module _ (f : ℕ) (p q : Window) (m n : ℕ) where
   unfolding look
   look_judge a b d e = simp (le-ltb _ _ a, le-ltb _ _ b, le-ltb _ _ d, le-ltb _ _ e)
 
-module _ (p q : Window) (v : ℕ) where
+module _ (p q : Option Window) (v : ℕ) where
   pub judge_slow : v < 50000000 → judge p q v ≡ NextM
   unfolding judge
   judge_slow a = simp (lt-ltb _ _ a)
@@ -53,6 +53,39 @@ module _ (p q : Window) (v : ℕ) where
   unfolding judge
   judge_join a b = simp (le-ltb _ _ a, le-ltb _ _ b)
 
+-- ---- the same by the tests that the code makes, with products in place of quotients
+module _ (f : ℕ) (p q : Option Window) (m n v : ℕ) (pos : 2 ≤ m) (e : v ≡ vco_of f n m) (a : m ≤ last_m) where
+  pub tested_low : f < 1000000 * m → Refuse ≡ look f p q m n
+  tested_low b = sym (look_low f p q m n a (quotient_below f m 1000000 (omega arith) b))
+
+  module _ (b : 1000000 * m ≤ f) where
+    least : 1000000 ≤ f / m
+    least = quotient_least f m 1000000 (omega arith) b
+
+    pub tested_high : 2000001 * m ≤ f → NextM ≡ look f p q m n
+    tested_high d = sym (look_high f p q m n a least (quotient_least f m 2000001 (omega arith) d))
+
+    module _ (d : f < 2000001 * m) where
+      most : f / m ≤ 2000000
+      most = let h = quotient_below f m 2000001 (omega arith) d in omega arith
+
+      pub tested_end : n < 50 → NextM ≡ look f p q m n
+      tested_end g = sym (look_end f p q m n a least most g)
+
+      judged_by : 50 ≤ n → look f p q m n ≡ judge p q v
+      judged_by g = look_judge f p q m n a least most g ∙ rw e
+
+      pub tested_slow : 50 ≤ n → v < 50000000 → NextM ≡ look f p q m n
+      tested_slow g h = sym (judged_by g ∙ judge_slow p q v h)
+
+      pub tested_fast : 50 ≤ n → 432000000 < v → NextN ≡ look f p q m n
+      tested_fast g h = sym (judged_by g ∙ judge_fast p q v (omega arith) h)
+
+      pub tested_join : 50 ≤ n → 50000000 ≤ v → v ≤ 432000000 → join (seek p_dividers p v) (seek q_dividers q v) ≡ look f p q m n
+      tested_join g h i = sym (judged_by g ∙ judge_join p q v h i)
+
+pub ruleset tested = (look_past, tested_low, tested_high, tested_end, tested_slow, tested_fast, tested_join)
+
 -- ---- the view
 pub record InRange (f m n : ℕ) : Type 0 where
   pub m_high : m ≤ last_m
@@ -60,7 +93,7 @@ pub record InRange (f m n : ℕ) : Type 0 where
   pub high : f / m ≤ 2000000
   pub n_low : 50 ≤ n
 
-pub data Looked (f : ℕ) (p q : Window) (m n : ℕ) : Look → Type 0 where
+pub data Looked (f : ℕ) (p q : Option Window) (m n : ℕ) : Look → Type 0 where
   past : last_m < m → Looked f p q m n Refuse
   low : f / m < 1000000 → Looked f p q m n Refuse
   high : m ≤ last_m → 1000000 ≤ f / m → 2000000 < f / m → Looked f p q m n NextM
@@ -69,15 +102,15 @@ pub data Looked (f : ℕ) (p q : Window) (m n : ℕ) : Look → Type 0 where
   fast : InRange f m n → 432000000 < vco_of f n m → Looked f p q m n NextN
   missed_p : InRange f m n → (Fitting p_dividers p (vco_of f n m) → ⊥) → Looked f p q m n NextN
   missed_q : InRange f m n → (Fitting q_dividers q (vco_of f n m) → ⊥) → Looked f p q m n NextN
-  good : {a b : Sought} → InRange f m n → 50000000 ≤ vco_of f n m → vco_of f n m ≤ 432000000 → Chosen p_dividers p (vco_of f n m) a → Chosen q_dividers q (vco_of f n m) b → Looked f p q m n (Good a b)
+  good : {a b : Option Divider} → InRange f m n → 50000000 ≤ vco_of f n m → vco_of f n m ≤ 432000000 → Chosen p_dividers p (vco_of f n m) a → Chosen q_dividers q (vco_of f n m) b → Looked f p q m n (Good a b)
 
-module _ (f : ℕ) (p q : Window) (m n : ℕ) where
-  joined : InRange f m n → 50000000 ≤ vco_of f n m → vco_of f n m ≤ 432000000 → (a b : Seek)
+module _ (f : ℕ) (p q : Option Window) (m n : ℕ) where
+  joined : InRange f m n → 50000000 ≤ vco_of f n m → vco_of f n m ≤ 432000000 → (a b : Option (Option Divider))
       → SeekView p_dividers p (vco_of f n m) a → SeekView q_dividers q (vco_of f n m) b → Looked f p q m n (join a b)
   unfolding join
-  joined r x y Missed b (missed g) w = missed_p r g
-  joined r x y (Had a) Missed (had a₁ c) (missed g) = missed_q r g
-  joined r x y (Had a) (Had b) (had a₁ c) (had b₁ d) = good r x y c d
+  joined r x y None b (missed g) w = missed_p r g
+  joined r x y (Some a) None (had a₁ c) (missed g) = missed_q r g
+  joined r x y (Some a) (Some b) (had a₁ c) (had b₁ d) = good r x y c d
 
   judged : InRange f m n → Looked f p q m n (judge p q (vco_of f n m))
   judged r =
@@ -103,12 +136,12 @@ module _ (f : ℕ) (p q : Window) (m n : ℕ) where
   pub told : {l : Look} → look f p q m n ≡ l → Looked f p q m n l
   told e = subst (λ (x : Look). Looked f p q m n x) e looked
 
-pub next_m_small : (f : ℕ) (p q : Window) (m n : ℕ) → Looked f p q m n NextM → m ≤ last_m
+pub next_m_small : (f : ℕ) (p q : Option Window) (m n : ℕ) → Looked f p q m n NextM → m ≤ last_m
 next_m_small f p q m n (high a b c) = a
 next_m_small f p q m n (end a b c d) = a
 next_m_small f p q m n (slow r d) = r.m_high
 
-pub next_n_range : (f : ℕ) (p q : Window) (m n : ℕ) → Looked f p q m n NextN → InRange f m n
+pub next_n_range : (f : ℕ) (p q : Option Window) (m n : ℕ) → Looked f p q m n NextN → InRange f m n
 next_n_range f p q m n (fast s a) = s
 next_n_range f p q m n (missed_p s a) = s
 next_n_range f p q m n (missed_q s a) = s

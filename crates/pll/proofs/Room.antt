@@ -4,6 +4,7 @@ use mathlib.Core.Path.{◌≡◌, refl}
 use mathlib.Core.Logic.{◌⊎◌, inl, inr, ⊎_elim}
 use native.Mathlib.Omega.{arith}
 use Rattle.pll.specs.Fixed.{InputOk}
+use Rattle.std.specs.Prelude.{Option}
 use Rattle.pll.specs.declared.Window.{Window}
 use Rattle.pll.specs.declared.Look.TheVariants.{NextM, NextN}
 use Rattle.pll.proofs.Dividers.{split, at_least, less_than}
@@ -66,7 +67,7 @@ module _ (f m n k : ℕ) (r : Room f m n k) where
         fresh = inr (omega arith, omega arith);
       }
 
-module _ (f : ℕ) (p q : Window) (m n k : ℕ) (r : Room f m n k) where
+module _ (f : ℕ) (p q : Option Window) (m n k : ℕ) (r : Room f m n k) where
   pub room_m : Looked f p q m n NextM → Room f (m + 1) 432 (k + 1)
   room_m w = record { m_low = omega (arith, r.m_low); n_low = omega arith; n_high = omega arith; k_low = omega arith; left = lefts w; fresh = inl refl }
     where

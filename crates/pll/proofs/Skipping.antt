@@ -5,22 +5,23 @@ use mathlib.Core.Logic.{⊎_elim}
 use native.Mathlib.Omega.{arith}
 use native.Mathlib.Nat.{div-lt_iff_lt-mul, zero-add, add-zero}
 use Rattle.pll.specs.Fixed.{vco_of}
-use Rattle.pll.specs.Walk.{look, walk, p_dividers, q_dividers}
+use Rattle.pll.specs.Walk.{look, walk, found, p_dividers, q_dividers}
 use Rattle.pll.specs.Skip.{unit_of, vco_by, target, jump}
 use Rattle.pll.specs.Good.{Fitting}
+use Rattle.std.specs.Prelude.{Option, Err}
+use Rattle.kinds.specs.declared.Divider.{Divider}
 use Rattle.pll.specs.declared.Window.{Window}
-use Rattle.pll.specs.declared.Sought.{Sought}
+use Rattle.pll.specs.declared.Miss.TheVariants.{Nothing}
 use Rattle.pll.specs.declared.Look.{Look}
 use Rattle.pll.specs.declared.Look.TheVariants.{Refuse, NextM, NextN, Good}
-use Rattle.pll.specs.declared.Found.TheVariants.{Pair, Nothing}
 use Rattle.pll.proofs.Reciprocal.{unit_pos, vco_by_lem, vco_grows}
 use Rattle.pll.proofs.Dividers.{split, chosen_fits, end_bound}
 use Rattle.pll.proofs.Looks.{InRange, Looked, past, low, high, end, slow, good, looked, told, next_n_range}
 use Rattle.pll.proofs.Room.{Room, room_here, room_down}
 
 -- ---- one turn of the walk, with what is left of its fuel
-module _ (f : ℕ) (p q : Window) (m n k d e : ℕ) (s : d ≡ suc e) where
-  pub turn_refuse : look f p q m n ≡ Refuse → walk d f p q (look f p q m n) m n k ≡ Nothing k
+module _ (f : ℕ) (p q : Option Window) (m n k d e : ℕ) (s : d ≡ suc e) where
+  pub turn_refuse : look f p q m n ≡ Refuse → walk d f p q (look f p q m n) m n k ≡ Err (Nothing k)
   unfolding walk
   turn_refuse h = rw (s, h)
 
@@ -32,23 +33,23 @@ module _ (f : ℕ) (p q : Window) (m n k d e : ℕ) (s : d ≡ suc e) where
   unfolding walk
   turn_n h = rw (s, h)
 
-  pub turn_good : (a b : Sought) → look f p q m n ≡ Good a b → walk d f p q (look f p q m n) m n k ≡ Pair (record { 0 = m }) (record { 0 = n }) a b k
+  pub turn_good : (a b : Option Divider) → look f p q m n ≡ Good a b → walk d f p q (look f p q m n) m n k ≡ found m n a b k
   unfolding walk
   turn_good a b h = rw (s, h)
 
 -- ---- the target
-target_bound : (p q : Window) (v x : ℕ) → x ≤ v → x ≤ 432000000 → Fitting p_dividers p x → Fitting q_dividers q x → x < target p q v
+target_bound : (p q : Option Window) (v x : ℕ) → x ≤ v → x ≤ 432000000 → Fitting p_dividers p x → Fitting q_dividers q x → x < target p q v
 unfolding target
 target_bound p q v x le top a b =
     let y = end_bound p_dividers p (min v 432000000) x tt (omega arith) (omega arith) a in
     let z = end_bound q_dividers q (min v 432000000) x tt (omega arith) (omega arith) b in
     omega arith
 
-pub target_low : (p q : Window) (v : ℕ) → 50000000 ≤ target p q v
+pub target_low : (p q : Option Window) (v : ℕ) → 50000000 ≤ target p q v
 unfolding target
 target_low p q v = omega arith
 
-pub target_high : (p q : Window) (v : ℕ) → target p q v ≤ 432000001
+pub target_high : (p q : Option Window) (v : ℕ) → target p q v ≤ 432000001
 unfolding target
 target_high p q v = omega arith
 
@@ -67,7 +68,7 @@ unfolding jump
 jump_less u n t h = omega arith
 
 -- a pair between the jump's ends fails
-module _ (f : ℕ) (p q : Window) (m n : ℕ) (r : InRange f m n) where
+module _ (f : ℕ) (p q : Option Window) (m n : ℕ) (r : InRange f m n) where
   fails : (N : ℕ) → 50 ≤ N → N ≤ n → target p q (vco_of f n m) ≤ vco_of f N m → (l : Look) → Looked f p q m N l → l ≡ NextN
   fails N a b h Refuse (past x) = absurd (omega (arith, x, r.m_high))
   fails N a b h Refuse (low x) = absurd (omega (arith, x, r.low))
@@ -87,7 +88,7 @@ module _ (f : ℕ) (p q : Window) (m n : ℕ) (r : InRange f m n) where
       (split N n)
 
 -- ---- the walk over j failing looks
-turns : (f : ℕ) (p q : Window) (m i j d k : ℕ) → ((N : ℕ) → i < N → N ≤ i + j → look f p q m N ≡ NextN)
+turns : (f : ℕ) (p q : Option Window) (m i j d k : ℕ) → ((N : ℕ) → i < N → N ≤ i + j → look f p q m N ≡ NextN)
     → walk (j + d) f p q (look f p q m (i + j)) m (i + j) k ≡ walk d f p q (look f p q m i) m i (k + j)
 turns f p q m i zero d k h = rw (zero-add d, add-zero i, add-zero k)
 turns f p q m i (suc j) d k h =
@@ -98,7 +99,7 @@ turns f p q m i (suc j) d k h =
     ∙ rw e (rw g at (turns f p q m i j d (k + 1) (λ N a b. h N a (omega arith))))
 
 -- the walk over the looks between j and n
-skip_walk : (f : ℕ) (p q : Window) (m n k j : ℕ) → j < n → k + (n - j) ≤ 10008 → ((N : ℕ) → j < N → N ≤ n → look f p q m N ≡ NextN)
+skip_walk : (f : ℕ) (p q : Option Window) (m n k j : ℕ) → j < n → k + (n - j) ≤ 10008 → ((N : ℕ) → j < N → N ≤ n → look f p q m N ≡ NextN)
     → walk (10009 - k) f p q (look f p q m n) m n k ≡ walk (10009 - (k + (n - j))) f p q (look f p q m j) m j (k + (n - j))
 skip_walk f p q m n k j a b h =
     let e : j + (n - j) ≡ n = omega arith in
@@ -107,13 +108,13 @@ skip_walk f p q m n k j a b h =
 
 -- ---- what the search's loop needs of a jump to j from a look that failed: j is below n, the looks passed over fit into the
 -- count, and the walk from j comes to what the walk from n does
-pub record Skipped (f : ℕ) (p q : Window) (m n k j : ℕ) : Type 0 where
+pub record Skipped (f : ℕ) (p q : Option Window) (m n k j : ℕ) : Type 0 where
   pub less : j < n
   pub count : k + (n - j) ≤ 10008
   pub room : Room f m j (k + (n - j))
   pub same : walk (10009 - k) f p q (look f p q m n) m n k ≡ walk (10009 - (k + (n - j))) f p q (look f p q m j) m j (k + (n - j))
 
-module _ (f : ℕ) (p q : Window) (m n k u v t j : ℕ) (i : 1000000 ≤ f) (r : Room f m n k) (e : look f p q m n ≡ NextN) (eu : u ≡ unit_of f m) (ev : v ≡ vco_of f n m) (et : t ≡ target p q v) (ej : j ≡ jump u n t) where
+module _ (f : ℕ) (p q : Option Window) (m n k u v t j : ℕ) (i : 1000000 ≤ f) (r : Room f m n k) (e : look f p q m n ≡ NextN) (eu : u ≡ unit_of f m) (ev : v ≡ vco_of f n m) (et : t ≡ target p q v) (ej : j ≡ jump u n t) where
   range : InRange f m n
   range = next_n_range f p q m n (told f p q m n e)
 

@@ -1,8 +1,8 @@
 -- Document 01, "Fixed point": r(d), the VCO, an output, and what settings as they stand give.
-use Rattle.std.specs.Prelude.{ℕ, ◌+◌, ◌*◌, ◌/◌, ◌≤◌, Bool, cond, ◌&&◌, leb}
+use Rattle.std.specs.Prelude.{ℕ, ◌+◌, ◌*◌, ◌/◌, ◌≤◌, Bool, cond, ◌&&◌, leb, Result, Ok, Err}
 use Rattle.kinds.specs.Table.{Between}
-use Rattle.pll.specs.declared.Outcome.{Outcome}
-use Rattle.pll.specs.declared.Outcome.TheVariants.{Refused, At}
+use Rattle.kinds.specs.declared.refusals.Refusal.{Refusal}
+use Rattle.kinds.specs.declared.refusals.Refusal.TheVariants.{Hse, Settings}
 
 -- x lies between lo and hi, the ends included
 abbrev pub inside : ℕ → ℕ → ℕ → Bool
@@ -34,8 +34,8 @@ unfoldable pub out_of : ℕ → ℕ → ℕ
 out_of v d = 16 * (v / 16 * recip_of d / 1073741824)
 
 -- the output of settings as they stand: 1 for an input outside 1 to 50 MHz, 6 for M outside 2..63, N outside 50..432 or d outside 2..15
-unfoldable pub output_of : ℕ → ℕ → ℕ → ℕ → Outcome
+unfoldable pub output_of : ℕ → ℕ → ℕ → ℕ → Result ℕ Refusal
 output_of f m n d =
     cond (inside 1000000 50000000 f)
-    (cond (inside 2 63 m && inside 50 432 n && inside 2 15 d) (At (out_of (vco_of f n m) d)) (Refused 6))
-    (Refused 1)
+    (cond (inside 2 63 m && inside 50 432 n && inside 2 15 d) (Ok (out_of (vco_of f n m) d)) (Err Settings))
+    (Err Hse)

@@ -1,21 +1,22 @@
 -- Document 01's number and passes of each answer: 0 accepted, 1 and 6 for limits, 7 for a search with no answer.
-use Rattle.std.specs.Prelude.{ℕ}
-use Rattle.pll.specs.declared.Found.{Found}
-use Rattle.pll.specs.declared.Found.TheVariants.{Pair, BadInput, Nothing}
-use Rattle.pll.specs.declared.Outcome.{Outcome}
-use Rattle.pll.specs.declared.Outcome.TheVariants.{Refused, At}
+use Rattle.std.specs.Prelude.{ℕ, Result, Ok, Err}
+use Rattle.pll.specs.declared.Pair.{Pair}
+use Rattle.pll.specs.declared.Miss.{Miss}
+use Rattle.pll.specs.declared.Miss.TheVariants.{BadInput, Nothing}
+use Rattle.kinds.specs.declared.refusals.Refusal.{Refusal}
+use Rattle.kinds.specs.Refusals.{number_of as refusal_number}
 
-abbrev pub number_of : Found → ℕ
-number_of (Pair m n p q k) = 0
-number_of BadInput = 1
-number_of (Nothing k) = 7
+abbrev pub number_of : Result Pair Miss → ℕ
+number_of (Ok r) = 0
+number_of (Err BadInput) = 1
+number_of (Err (Nothing k)) = 7
 
 -- an input refused with 1 makes 0 passes
-abbrev pub passes_of : Found → ℕ
-passes_of (Pair m n p q k) = k
-passes_of BadInput = 0
-passes_of (Nothing k) = k
+abbrev pub passes_of : Result Pair Miss → ℕ
+passes_of (Ok r) = r.passes
+passes_of (Err BadInput) = 0
+passes_of (Err (Nothing k)) = k
 
-abbrev pub outcome_number_of : Outcome → ℕ
-outcome_number_of (Refused n) = n
-outcome_number_of (At x) = 0
+abbrev pub outcome_number_of : Result ℕ Refusal → ℕ
+outcome_number_of (Err r) = refusal_number r
+outcome_number_of (Ok x) = 0

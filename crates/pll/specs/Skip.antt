@@ -1,14 +1,11 @@
 -- How the code cuts the walk short. No promise names these: they say what the private functions compute.
-use Rattle.std.specs.Prelude.{ℕ, ◌+◌, ◌-◌, ◌*◌, ◌/◌, min, max, cond, List, [], ◌∷◌, leb, ltb}
+use Rattle.std.specs.Prelude.{ℕ, ◌+◌, ◌-◌, ◌*◌, ◌/◌, min, max, cond, List, [], ◌∷◌, leb, ltb, Option, Some, None}
 use Rattle.pll.specs.Fixed.{recip_of}
 use Rattle.pll.specs.Walk.{p_dividers, q_dividers}
+use Rattle.kinds.specs.declared.Divider.{Divider}
 use Rattle.pll.specs.declared.Window.{Window}
-use Rattle.pll.specs.declared.Window.TheVariants.{Absent, Within}
 use Rattle.pll.specs.declared.Side.{Side}
 use Rattle.pll.specs.declared.Side.TheVariants.{P, Q}
-use Rattle.pll.specs.declared.Sought.TheVariants.{By}
-use Rattle.pll.specs.declared.Seek.{Seek}
-use Rattle.pll.specs.declared.Seek.TheVariants.{Missed, Had}
 
 -- what the VCO is made of beside N, and the VCO by it
 unfoldable pub unit_of : ℕ → ℕ → ℕ
@@ -28,16 +25,16 @@ highest [] lo v = 0
 highest (d ∷ ds) lo v = cond (leb (lo * d) v) d (highest ds lo v)
 
 -- divider d, unless it puts v above hi
-unfoldable pub fit : ℕ → ℕ → ℕ → Seek
-fit hi d v = cond (ltb v ((hi + 1) * d)) (Had (By (record { 0 = d }))) Missed
+unfoldable pub fit : ℕ → ℕ → ℕ → Option (Option Divider)
+fit hi d v = cond (ltb v ((hi + 1) * d)) (Some (Some (record { 0 = d }))) None
 
 -- each VCO up to v that fits the window is below this
-unfoldable pub end : List ℕ → Window → ℕ → ℕ
-end ds Absent v = 432000001
-end ds (Within lo hi) v = (hi.0 + 1) * highest ds lo.0 v
+unfoldable pub end : List ℕ → Option Window → ℕ → ℕ
+end ds None v = 432000001
+end ds (Some w) v = (w.hi.0 + 1) * highest ds w.lo.0 v
 
 -- the same of both windows and VCOs up to 432 MHz; below 50 MHz the walk leaves the M
-unfoldable pub target : Window → Window → ℕ → ℕ
+unfoldable pub target : Option Window → Option Window → ℕ → ℕ
 target p q v =
     max 50000000 (min 432000001 (min (end p_dividers p (min v 432000000)) (end q_dividers q (min v 432000000))))
 

@@ -4,24 +4,31 @@ ghost use Rattle.pll.specs.Fixed.{vco_of};
 ghost use Rattle.pll.specs.Walk as spec;
 
 use crate::windows::seek;
-use crate::{Look, Seek, Side, Window};
+use crate::{Look, Side, Window};
 use kinds::{Divider, Factor, Hertz};
 
 // Both sought: the pair is good, unless one is missed.
-fn join(a: Seek, b: Seek) -> Look
+#[tactic(auto, unfolding(crate::specs::Walk::join))]
+fn join(a: Option<Option<Divider>>, b: Option<Option<Divider>>) -> Look
     ensures { result ≡ spec.join a b }
 {
-    match a {
-        Seek::Missed => Look::NextN,
-        Seek::Had(x) => match b {
-            Seek::Missed => Look::NextN,
-            Seek::Had(y) => Look::Good(x, y),
-        },
+    match (a, b) {
+        (None, _) => Look::NextN,
+        (Some(_), None) => Look::NextN,
+        (Some(x), Some(y)) => Look::Good(x, y),
     }
 }
 
 // The limits of f / M are tested as products: a division would be the dearest step of a pass.
-pub(crate) fn look_at(f: Hertz, p: Window, q: Window, m: Divider, n: Factor, v: u64) -> Look
+#[tactic(auto, using(crate::proofs::Looks::tested))]
+pub(crate) fn look_at(
+    f: Hertz,
+    p: Option<Window>,
+    q: Option<Window>,
+    m: Divider,
+    n: Factor,
+    v: u64,
+) -> Look
     requires { (2 ≤ m.0) × (v ≡ vco_of f.0 n.0 m.0) }
     ensures { result ≡ spec.look f.0 p q m.0 n.0 }
 {

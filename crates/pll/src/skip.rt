@@ -6,35 +6,23 @@ use crate::windows::end;
 use crate::{Side, Window};
 use kinds::Factor;
 
-fn least(a: u64, b: u64) -> u64
-    ensures { result ≡ min a b }
-{
-    if a < b { a } else { b }
-}
-
-fn most(a: u64, b: u64) -> u64
-    ensures { result ≡ max a b }
-{
-    if a < b { b } else { a }
-}
-
 // Where the VCOs up to v that both windows take end; never below 50 MHz, where the walk leaves the M.
-pub(crate) fn target(p: Window, q: Window, v: u64) -> u64
+#[tactic(auto, unfolding(crate::specs::Skip::target))]
+pub(crate) fn target(p: Option<Window>, q: Option<Window>, v: u64) -> u64
     ensures { result ≡ spec.target p q v }
 {
-    let w = least(v, 432000000);
-    most(
-        50000000,
-        least(432000001, least(end(Side::P, p, w), end(Side::Q, q, w))),
-    )
+    let w = v.min(432000000);
+    let both = end(Side::P, p, w).min(end(Side::Q, q, w));
+    both.clamp(50000000, 432000001)
 }
 
 // The greatest N below n whose VCO is below t, or 49, where the walk leaves the M.
+#[tactic(auto, unfolding(crate::specs::Skip::jump))]
 pub(crate) fn jump(u: u64, n: Factor, t: u64) -> Factor
     requires { (0 < u) × (50 ≤ n.0) × (n.0 ≤ 432) × (50000000 ≤ t) × (t ≤ 432000001) }
     ensures { result.0 ≡ spec.jump u n.0 t }
 {
     let x = ((t + 15) / 16 * 1073741824 - 1) / u;
-    let k = n.0 as u64;
-    Factor(most(49, least(k - 1, x)) as u32)
+    let last = u64::from(n.0) - 1;
+    Factor(last.min(x).max(49) as u32)
 }

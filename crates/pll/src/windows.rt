@@ -5,34 +5,31 @@ ghost use Rattle.pll.specs.Walk.{seek as seek_of};
 ghost use Rattle.pll.specs.Skip.{dividers_of};
 ghost use Rattle.pll.specs.Skip as spec;
 
-use crate::{Seek, Side, Sought, Window};
+use crate::{Side, Window};
 use kinds::{Divider, Hertz};
 
-// The largest P whose output is not below the window, or 0. A smaller one fits only where this one does.
+const P_DIVIDERS: [u32; 4] = [8, 6, 4, 2];
+
+// The largest P whose output is not below the window, or 0, a number with which `fitting` and `end` need no case of their own. A
+// smaller one fits only where this one does.
+#[tactic(auto, unfolding(crate::specs::Skip::highest))]
 fn highest_p(lo: Hertz, v: u64) -> u32
     ensures { result ≡ spec.highest p_dividers lo.0 v }
 {
-    let l = lo.0 as u64;
-    if l * 8 <= v {
-        return 8;
-    }
-    if l * 6 <= v {
-        return 6;
-    }
-    if l * 4 <= v {
-        return 4;
-    }
-    if l * 2 <= v {
-        return 2;
+    for d in &P_DIVIDERS {
+        if u64::from(lo.0) * u64::from(*d) <= v {
+            return *d;
+        }
     }
     0
 }
 
-// The largest Q whose output is not below the window, or 0.
+// The largest Q whose output is not below the window, or 0. By one division: up to fourteen products, as for P, take longer.
+#[tactic(auto, using(crate::proofs::Dividers::highest_q))]
 fn highest_q(lo: Hertz, v: u64) -> u32
     ensures { result ≡ spec.highest q_dividers lo.0 v }
 {
-    let l = lo.0 as u64;
+    let l = u64::from(lo.0);
     if l * 15 <= v {
         return 15;
     }
@@ -44,17 +41,18 @@ fn highest_q(lo: Hertz, v: u64) -> u32
 fn past(hi: Hertz, d: u32) -> u64
     ensures { result ≡ (hi.0 + 1) * d }
 {
-    (hi.0 as u64 + 1) * (d as u64)
+    (u64::from(hi.0) + 1) * u64::from(d)
 }
 
 // The divider, unless it puts the VCO past the window.
-fn fitting(hi: Hertz, d: u32, v: u64) -> Seek
+#[tactic(auto, unfolding(crate::specs::Skip::fit))]
+fn fitting(hi: Hertz, d: u32, v: u64) -> Option<Option<Divider>>
     ensures { result ≡ spec.fit hi.0 d v }
 {
     if v < past(hi, d) {
-        Seek::Had(Sought::By(Divider(d)))
+        Some(Some(Divider(d)))
     } else {
-        Seek::Missed
+        None
     }
 }
 
@@ -67,22 +65,24 @@ fn highest(s: Side, lo: Hertz, v: u64) -> u32
     }
 }
 
-// The divider that the window gets, if one fits.
-pub(crate) fn seek(s: Side, w: Window, v: u64) -> Seek
+// The divider that the window gets, if one fits: none inside where there is no window.
+#[tactic(auto, using(crate::proofs::Dividers::side_fit), unfolding(crate::specs::Walk::seek))]
+pub(crate) fn seek(s: Side, w: Option<Window>, v: u64) -> Option<Option<Divider>>
     ensures { result ≡ seek_of (dividers_of s) w v }
 {
     match w {
-        Window::Absent => Seek::Had(Sought::Unasked),
-        Window::Within(lo, hi) => fitting(hi, highest(s, lo, v), v),
+        None => Some(None),
+        Some(x) => fitting(x.hi, highest(s, x.lo, v), v),
     }
 }
 
 // Where the VCOs up to v that fit the window end.
-pub(crate) fn end(s: Side, w: Window, v: u64) -> u64
+#[tactic(auto, unfolding(crate::specs::Skip::end))]
+pub(crate) fn end(s: Side, w: Option<Window>, v: u64) -> u64
     ensures { result ≡ spec.end (dividers_of s) w v }
 {
     match w {
-        Window::Absent => 432000001,
-        Window::Within(lo, hi) => past(hi, highest(s, lo, v)),
+        None => 432000001,
+        Some(x) => past(x.hi, highest(s, x.lo, v)),
     }
 }

@@ -8,8 +8,9 @@ use native.Mathlib.Omega.{arith}
 use lib.ListN.{length}
 use lib.Dec.{eqb}
 use borrow.Author.Tests.{eqb-true, eqb-false}
+use Rattle.std.specs.Prelude.{Result, Ok, Err}
 use Rattle.record.specs.Places.{RECORD}
-use Rattle.record.specs.Layout.{Rule, reserved_bits, child, code, blank, number, fault_of, layout, blank_run, blanks, breach_of}
+use Rattle.record.specs.Layout.{Found, Rule, reserved_bits, child, code, blank, number, fault_of, layout, blank_run, blanks, breach_of}
 use Rattle.record.specs.Config.{cfgr_of}
 use Rattle.record.specs.Reading.{number_of, judged_of, read_of}
 use Rattle.record.specs.WellFormed.{WellFormed}
@@ -17,17 +18,14 @@ use Rattle.record.specs.Lowest.{Lowest}
 use Rattle.kinds.specs.declared.CFGR.{CFGR}
 use Rattle.record.specs.declared.Fault.{Fault}
 use Rattle.record.specs.declared.Fault.TheVariants.{Length, Reserved, Code, Unasked}
-use Rattle.record.specs.declared.faults.Found.{Found}
-use Rattle.record.specs.declared.Reading.{Reading}
-use Rattle.record.specs.declared.Reading.TheVariants.{Config, Malformed}
 use Rattle.record.proofs.First.{First, kept, breached, first, rising, kept_at}
 use Rattle.record.proofs.Kept.{well_formed, layout_kept}
 
 -- the three ways that a reading comes out
-data Read (b : List ℕ) : Reading → Type 0 where
-  well : WellFormed b → Read b (Config (cfgr_of b))
-  other_length : (length b ≡ RECORD → ⊥) → Read b (Malformed Length)
-  lowest : {fault : Fault} → length b ≡ RECORD → Lowest b layout fault → Read b (Malformed fault)
+data Read (b : List ℕ) : Result CFGR Fault → Type 0 where
+  well : WellFormed b → Read b (Ok (cfgr_of b))
+  other_length : (length b ≡ RECORD → ⊥) → Read b (Err Length)
+  lowest : {fault : Fault} → length b ≡ RECORD → Lowest b layout fault → Read b (Err fault)
 
 -- the layout's rules stand in the order of their offsets
 in_order : rising 0 layout ≡ true
@@ -42,7 +40,7 @@ judged : (b : List ℕ) {found : Found} → length b ≡ RECORD → First b layo
 judged b whole (kept k) = well (well_formed b whole k)
 judged b whole (breached l) = lowest whole l
 
-by_length : (b : List ℕ) (t : Bool) → eqb (length b) RECORD ≡ t → Read b (cond t (judged_of (breach_of b) b) (Malformed Length))
+by_length : (b : List ℕ) (t : Bool) → eqb (length b) RECORD ≡ t → Read b (cond t (judged_of (breach_of b) b) (Err Length))
 by_length b true e = judged b (eqb-true _ _ e) (looked_at b)
 by_length b false e = other_length (eqb-false _ _ e)
 
@@ -51,7 +49,7 @@ unfolding read_of
 read b = by_length b (eqb (length b) RECORD) refl
 
 -- malformed is no configuration
-apart : {c : CFGR} {fault : Fault} → Malformed fault ≡ Config c → ⊥
+apart : {c : CFGR} {fault : Fault} → Err fault ≡ Ok c → ⊥
 apart e =
     let z : ◌≡◌ {A = ℕ} 0 1 = cc in
     omega arith
@@ -73,43 +71,43 @@ not_length r e =
     let z : ◌≡◌ {A = ℕ} 0 1 = clash r e in
     omega arith
 
-exactly : (b : List ℕ) {r : Reading} → Read b r → (r ≡ Config (cfgr_of b)) ↔ WellFormed b
+exactly : (b : List ℕ) {r : Result CFGR Fault} → Read b r → (r ≡ Ok (cfgr_of b)) ↔ WellFormed b
 exactly b (well w) = (λ e. w, λ w'. refl)
 exactly b (other_length n) = (λ e. absurd (apart e), λ w. absurd (n w.whole))
 exactly b (lowest whole l) = (λ e. absurd (apart e), λ w. absurd (not_well b l w))
 
-malformed : (b : List ℕ) {r : Reading} → Read b r → (WellFormed b → ⊥) → (fault : Fault) × (r ≡ Malformed fault)
+malformed : (b : List ℕ) {r : Result CFGR Fault} → Read b r → (WellFormed b → ⊥) → (fault : Fault) × (r ≡ Err fault)
 malformed b (well w) n = absurd (n w)
 malformed b (other_length h) n = (_, refl)
 malformed b (lowest whole l) n = (_, refl)
 
-named : (b : List ℕ) {r : Reading} {fault : Fault} → Read b r → r ≡ Malformed fault → length b ≡ RECORD → Lowest b layout fault
+named : (b : List ℕ) {r : Result CFGR Fault} {fault : Fault} → Read b r → r ≡ Err fault → length b ≡ RECORD → Lowest b layout fault
 named b (well w) e h = absurd (apart (sym e))
 named b (other_length n) e h = absurd (n h)
 named b {fault = x} (lowest {fault} whole l) e h =
     let p : fault ≡ x = cc in
     rw p at l
 
-length_seen : (b : List ℕ) {r : Reading} → Read b r → (r ≡ Malformed Length) ↔ (length b ≡ RECORD → ⊥)
+length_seen : (b : List ℕ) {r : Result CFGR Fault} → Read b r → (r ≡ Err Length) ↔ (length b ≡ RECORD → ⊥)
 length_seen b (well w) = (λ e. absurd (apart (sym e)), λ n. absurd (n w.whole))
 length_seen b (other_length n) = (λ e. n, λ n'. refl)
 length_seen b (lowest {fault} whole l) =
     (λ e. let p : fault ≡ Length = cc in absurd (not_length l.rule (l.named ∙ p)), λ n. absurd (n whole))
 
 -- bytes are read as the configuration that they hold exactly if they are a well-formed record
-pub reads_exactly : (b : List ℕ) → (read_of b ≡ Config (cfgr_of b)) ↔ WellFormed b
+pub reads_exactly : (b : List ℕ) → (read_of b ≡ Ok (cfgr_of b)) ↔ WellFormed b
 reads_exactly b = exactly b (read b)
 
 -- any other bytes are malformed
-pub else_malformed : (b : List ℕ) → (WellFormed b → ⊥) → (fault : Fault) × (read_of b ≡ Malformed fault)
+pub else_malformed : (b : List ℕ) → (WellFormed b → ⊥) → (fault : Fault) × (read_of b ≡ Err fault)
 else_malformed b = malformed b (read b)
 
 -- the length is the fault exactly if it isn't 64
-pub length_exactly : (b : List ℕ) → (read_of b ≡ Malformed Length) ↔ (length b ≡ RECORD → ⊥)
+pub length_exactly : (b : List ℕ) → (read_of b ≡ Err Length) ↔ (length b ≡ RECORD → ⊥)
 length_exactly b = length_seen b (read b)
 
 -- the fault of 64 bytes is a breach of the layout, and no breach is at a lower offset
-pub lowest_named : (b : List ℕ) (fault : Fault) → read_of b ≡ Malformed fault → length b ≡ RECORD → Lowest b layout fault
+pub lowest_named : (b : List ℕ) (fault : Fault) → read_of b ≡ Err fault → length b ≡ RECORD → Lowest b layout fault
 lowest_named b fault = named b (read b)
 
 -- whatever the breach, its number is 14

@@ -8,11 +8,10 @@ use mathlib.Core.Logic.{⊎_elim}
 use native.Mathlib.Omega.{arith}
 use lib.Dec.{leb}
 use borrow.Author.Tests.{leb-true, le-leb}
-use Rattle.record.specs.Layout.{Rule, keeps, offset_of, fault_of, noted, looked, breach_from}
+use Rattle.std.specs.Prelude.{Ok, Err}
+use Rattle.record.specs.Layout.{Found, Rule, keeps, offset_of, fault_of, noted, looked, breach_from}
 use Rattle.record.specs.Lowest.{Lowest}
 use Rattle.record.specs.declared.Fault.{Fault}
-use Rattle.record.specs.declared.faults.Found.{Found}
-use Rattle.record.specs.declared.faults.Found.TheVariants.{Fine, At}
 
 -- every rule of a list is kept
 abbrev pub Kept : List ℕ → List Rule → Type 0
@@ -26,8 +25,8 @@ rising k (r ∷ rs) = leb k (offset_of r) && rising (offset_of r) rs
 
 -- the two ways that looking at a list of rules ends
 pub data First (b : List ℕ) (rs : List Rule) : Found → Type 0 where
-  kept : Kept b rs → First b rs Fine
-  breached : {fault : Fault} → Lowest b rs fault → First b rs (At fault)
+  kept : Kept b rs → First b rs (Ok tt)
+  breached : {fault : Fault} → Lowest b rs fault → First b rs (Err fault)
 
 -- a rule of a list that is kept is kept
 pub kept_at : (b : List ℕ) (rs : List Rule) {r : Rule} → Kept b rs → Memᴰ r rs → keeps b r ≡ true
@@ -46,8 +45,12 @@ past {r} k (s ∷ rs) h m =
     (λ m'. let later : offset_of s ≤ offset_of r = past (offset_of s) rs both.1 m' in omega arith)
     (Memᴰ.cases_cons m)
 
--- a breach that is found stands
-stays : (b : List ℕ) (fault : Fault) (rs : List Rule) → breach_from b (At fault) rs ≡ At fault
+-- a breach that is found stands, through one more rule and through a list of them
+pub stands : (b : List ℕ) (fault : Fault) (r : Rule) → looked b (Err fault) r ≡ Err fault
+unfolding looked
+stands b fault r = refl
+
+pub stays : (b : List ℕ) (fault : Fault) (rs : List Rule) → breach_from b (Err fault) rs ≡ Err fault
 unfolding looked
 stays b fault [] = refl
 stays b fault (r ∷ rs) = stays b fault rs
@@ -68,7 +71,7 @@ module _ (b : List ℕ) (r : Rule) (rs : List Rule) where
       })
 
   -- the first rule is breached: it is the lowest
-  ends : rising (offset_of r) rs ≡ true → keeps b r ≡ false → First b (r ∷ rs) (At (fault_of r))
+  ends : rising (offset_of r) rs ≡ true → keeps b r ≡ false → First b (r ∷ rs) (Err (fault_of r))
   ends up e =
       breached
       (record {
@@ -85,13 +88,13 @@ module _ (b : List ℕ) (r : Rule) (rs : List Rule) where
       })
 
   by_test :
-      (t : Bool) → rising (offset_of r) rs ≡ true → keeps b r ≡ t → First b rs (breach_from b Fine rs)
-      → First b (r ∷ rs) (breach_from b (noted Fine t (fault_of r)) rs)
+      (t : Bool) → rising (offset_of r) rs ≡ true → keeps b r ≡ t → First b rs (breach_from b (Ok tt) rs)
+      → First b (r ∷ rs) (breach_from b (noted (Ok tt) t (fault_of r)) rs)
   by_test true up e rest = goes_on e rest
   by_test false up e rest = rw (stays b (fault_of r) rs) (ends up e)
 
 -- how looking at the rules of a rising list ends
-pub first : (b : List ℕ) (k : ℕ) (rs : List Rule) → rising k rs ≡ true → First b rs (breach_from b Fine rs)
+pub first : (b : List ℕ) (k : ℕ) (rs : List Rule) → rising k rs ≡ true → First b rs (breach_from b (Ok tt) rs)
 unfolding looked
 first b k [] up = kept tt
 first b k (r ∷ rs) up =

@@ -1,8 +1,9 @@
 -- Document 01, "Request record": the configuration that the bytes hold, group by group.
-use Rattle.std.specs.Prelude.{ℕ, Bool, true, false, cond, List, get_or, eqb}
+use Rattle.std.specs.Prelude.{ℕ, Bool, true, false, cond, List, get_or, eqb, None, Option, Some, Result, Ok, Err}
 use Rattle.record.specs.Numbers.{u16_at, u32_at, flag_at}
 use Rattle.record.specs.Places.{hse_flag, hse_bypass_flag, hclk_flag, sysclk_flag, pclk1_flag, pclk2_flag, lse_flag, lse_bypass_flag, lsi_flag, use_pll_flag, choice48_flag, choice_pllsai_flag, pllsai_flag, plli2s_flag}
 use Rattle.record.specs.Places.{m_at, p_at, q_at, pllsai_p_at, pllsai_q_at, plli2s_r_at, plli2s_q_at, mco1_at, mco1pre_at, mco2_at, mco2pre_at, n_at, pllsai_n_at, plli2s_n_at, hse_at, hclk_at, sysclk_at, pclk1_at, pclk2_at}
+use Rattle.kinds.specs.declared.codes.UnknownCode.{UnknownCode}
 use Rattle.kinds.specs.declared.CFGR.{CFGR}
 use Rattle.kinds.specs.declared.Sources.{Sources}
 use Rattle.kinds.specs.declared.Requests.{Requests}
@@ -22,13 +23,11 @@ use Rattle.kinds.specs.declared.MCO2.TheVariants.{Sysclk, Plli2s, Hse as Mco2Hse
 use Rattle.kinds.specs.declared.MCOPRE.{MCOPRE}
 use Rattle.kinds.specs.declared.MCOPRE.TheVariants.{Div1, Div2, Div3, Div4, Div5}
 use Rattle.kinds.specs.declared.HSEClock.{HSEClock}
-use Rattle.kinds.specs.declared.HSEClock.TheVariants.{Absent as NoHse, Oscillator as HseOscillator, Bypass as HseBypass}
-use Rattle.kinds.specs.declared.LSEClock.{LSEClock}
-use Rattle.kinds.specs.declared.LSEClock.TheVariants.{Absent as NoLse, Oscillator as LseOscillator, Bypass as LseBypass}
-use Rattle.kinds.specs.declared.Choice48.{Choice48}
-use Rattle.kinds.specs.declared.Choice48.TheVariants.{Absent as NoChoice, Pllq, Pllsai}
-use Rattle.kinds.specs.declared.Request.{Request}
-use Rattle.kinds.specs.declared.Request.TheVariants.{Absent as NoRequest, At}
+use Rattle.kinds.specs.declared.HSEClock.TheVariants.{Oscillator as HseOscillator, Bypass as HseBypass}
+use Rattle.kinds.specs.declared.LSEClockMode.{LSEClockMode}
+use Rattle.kinds.specs.declared.LSEClockMode.TheVariants.{Oscillator as LseOscillator, Bypass as LseBypass}
+use Rattle.kinds.specs.declared.PLL48CLK.{PLL48CLK}
+use Rattle.kinds.specs.declared.PLL48CLK.TheVariants.{Pllq, Pllsai}
 
 -- a divider is a byte, a factor a u16, a frequency a u32
 unfoldable pub divider_at : List ℕ → ℕ → Divider
@@ -53,24 +52,28 @@ mco2_of k = cond (eqb k 0) Sysclk (cond (eqb k 1) Plli2s (cond (eqb k 2) Mco2Hse
 unfoldable pub mcopre_of : ℕ → MCOPRE
 mcopre_of k = cond (eqb k 0) Div1 (cond (eqb k 1) Div2 (cond (eqb k 2) Div3 (cond (eqb k 3) Div4 Div5)))
 
+-- what is read by a law of codes: the value that it gives, or the last where it gives none
+pub data Coded {T : Type 0} (gives : ℕ → Result T UnknownCode → Type 0) (n : ℕ) (last : T) : T → Type 0 where
+  read : {x : T} → gives n (Ok x) → Coded gives n last x
+  unread : {e : UnknownCode} → gives n (Err e) → Coded gives n last last
+
 -- what is present by its flag, and which by the second flag
-abbrev pub hse_from : Bool → Bool → Hertz → HSEClock
-hse_from true true f = HseBypass f
-hse_from true false f = HseOscillator f
-hse_from false bypass f = NoHse
+abbrev pub chosen : {T : Type 0} → Bool → Bool → T → T → Option T
+chosen true true on off = Some on
+chosen true false on off = Some off
+chosen false second on off = None
 
-abbrev pub lse_from : Bool → Bool → LSEClock
-lse_from true true = LseBypass
-lse_from true false = LseOscillator
-lse_from false bypass = NoLse
+abbrev pub hse_from : Bool → Bool → Hertz → Option HSEClock
+hse_from present bypass f = chosen present bypass (HseBypass f) (HseOscillator f)
 
-abbrev pub choice_of : Bool → Bool → Choice48
-choice_of true true = Pllsai
-choice_of true false = Pllq
-choice_of false pllsai = NoChoice
+abbrev pub lse_from : Bool → Bool → Option LSEClockMode
+lse_from present bypass = chosen present bypass LseBypass LseOscillator
 
-unfoldable pub request_at : List ℕ → ℕ → ℕ → Request
-request_at b flag at = cond (flag_at b flag) (At (hertz_at b at)) NoRequest
+abbrev pub choice_of : Bool → Bool → Option PLL48CLK
+choice_of present pllsai = chosen present pllsai Pllsai Pllq
+
+unfoldable pub request_at : List ℕ → ℕ → ℕ → Option Hertz
+request_at b flag at = cond (flag_at b flag) (Some (hertz_at b at)) None
 
 unfoldable pub sources_of : List ℕ → Sources
 sources_of b = record {

@@ -1,12 +1,14 @@
 -- Document 01, "Request record": the rules that a record of 64 bytes keeps, and the first of them that it breaches.
-use Rattle.std.specs.Prelude.{ℕ, zero, suc, ◌+◌, ◌-◌, Bool, true, false, not, ◌||◌, List, [], ◌∷◌, ◌++◌, get_or, eqb, ltb, leb}
+use Rattle.std.specs.Prelude.{ℕ, zero, suc, ◌+◌, ◌-◌, Bool, true, false, not, ◌||◌, List, [], ◌∷◌, ◌++◌, get_or, eqb, ltb, leb, Result, Ok, Err}
 use Rattle.record.specs.Numbers.{u16_at, u32_at, flag_at}
 use Rattle.record.specs.Places.{hse_flag, hse_bypass_flag, hclk_flag, sysclk_flag, pclk1_flag, pclk2_flag, lse_flag, lse_bypass_flag, choice48_flag, choice_pllsai_flag}
 use Rattle.record.specs.Places.{RECORD, p_at, pllsai_p_at, mco1_at, mco1pre_at, mco2_at, mco2pre_at, hse_at, hclk_at, sysclk_at, pclk1_at, pclk2_at}
 use Rattle.record.specs.declared.Fault.{Fault}
 use Rattle.record.specs.declared.Fault.TheVariants.{Reserved, Code, Unasked}
-use Rattle.record.specs.declared.faults.Found.{Found}
-use Rattle.record.specs.declared.faults.Found.TheVariants.{Fine, At}
+
+-- what the rules looked at so far have shown: nothing, or the first breach
+abbrev pub Found : Type 0
+Found = Result (Unit {0}) Fault
 
 -- the kinds of rule
 pub data Rule : Type 0 where
@@ -85,9 +87,9 @@ fault_of (number flag at) = Unasked at
 
 -- a breach found before stands; else a rule that isn't kept is the first
 abbrev pub noted : Found → Bool → Fault → Found
-noted Fine true fault = Fine
-noted Fine false fault = At fault
-noted (At first) kept fault = At first
+noted (Ok fine) true fault = Ok fine
+noted (Ok fine) false fault = Err fault
+noted (Err first) kept fault = Err first
 
 unfoldable pub looked : List ℕ → Found → Rule → Found
 looked b found r = noted found (keeps b r) (fault_of r)
@@ -98,4 +100,4 @@ breach_from b found (r ∷ rs) = breach_from b (looked b found r) rs
 
 -- the first rule of the layout that the bytes breach
 unfoldable pub breach_of : List ℕ → Found
-breach_of b = breach_from b Fine layout
+breach_of b = breach_from b (Ok tt) layout

@@ -1,14 +1,11 @@
 -- Document 01, "Request record": what any bytes are read as, and the number of a malformed record.
-use Rattle.std.specs.Prelude.{ℕ, cond, List, [], ◌∷◌, ◌++◌, length, replicate, eqb}
+use Rattle.std.specs.Prelude.{ℕ, cond, List, [], ◌∷◌, ◌++◌, length, replicate, eqb, Result, Ok, Err}
 use Rattle.record.specs.Places.{RECORD}
-use Rattle.record.specs.Layout.{breach_of}
+use Rattle.record.specs.Layout.{Found, breach_of}
 use Rattle.record.specs.Config.{cfgr_of}
 use Rattle.record.specs.declared.Fault.{Fault}
 use Rattle.record.specs.declared.Fault.TheVariants.{Length, Reserved, Code, Unasked}
-use Rattle.record.specs.declared.faults.Found.{Found}
-use Rattle.record.specs.declared.faults.Found.TheVariants.{Fine, At}
-use Rattle.record.specs.declared.Reading.{Reading}
-use Rattle.record.specs.declared.Reading.TheVariants.{Config, Malformed}
+use Rattle.kinds.specs.declared.CFGR.{CFGR}
 
 -- any breach of the layout, or another length, is 14: document 01 gives one number for all of it
 abbrev pub number_of : Fault → ℕ
@@ -17,13 +14,13 @@ number_of (Reserved at) = 14
 number_of (Code at) = 14
 number_of (Unasked at) = 14
 
-abbrev pub judged_of : Found → List ℕ → Reading
-judged_of Fine b = Config (cfgr_of b)
-judged_of (At fault) b = Malformed fault
+abbrev pub judged_of : Found → List ℕ → Result CFGR Fault
+judged_of (Ok fine) b = Ok (cfgr_of b)
+judged_of (Err fault) b = Err fault
 
 -- 64 bytes that breach nothing: their configuration
-unfoldable pub read_of : List ℕ → Reading
-read_of b = cond (eqb (length b) RECORD) (judged_of (breach_of b) b) (Malformed Length)
+unfoldable pub read_of : List ℕ → Result CFGR Fault
+read_of b = cond (eqb (length b) RECORD) (judged_of (breach_of b) b) (Err Length)
 
 -- the record of the Rust's defaults: M 2, P code 0, Q 2, PLLSAI P code 0, Q 2, PLLI2S R 2, Q 2, MCO codes 0;
 -- N 50, PLLSAI N 192, PLLI2S N 192; rest zero

@@ -1,4 +1,4 @@
-// The flags of the u16 at byte 0, from bit 0 on, each by its bit's value.
+// The flags of the u16 at byte 0, from bit 0 on, each by its bit's value, a number as the record has it.
 pub const HSE: u16 = 1;
 
 pub const HSE_BYPASS: u16 = 2;

@@ -1,4 +1,4 @@
-// Where each value of a record stands: the offset of its first byte. The reserved byte and the tail, to the end of the record, are
+// Where each value of a record stands: the offset of its first byte, a number as `Fault` tells it. The reserved byte and the tail, to the end of the record, are
 // zero.
 pub const FLAGS: usize = 0;
 

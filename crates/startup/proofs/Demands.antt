@@ -9,22 +9,23 @@ use lib.ListN.{length, get_or, take, replicate}
 use lib.Seq.{take-length}
 use Rattle.kinds.specs.Table.{Between}
 use Rattle.kinds.specs.declared.CFGR.{CFGR}
+use Rattle.kinds.specs.declared.refusals.Refusal.TheVariants.{PollLimit}
 use Rattle.clocks.specs.Derive.{clocks_of, config_of}
 use Rattle.clocks.specs.declared.Clocks.{Clocks}
 use Rattle.clocks.specs.declared.InternalRCCConfig.{InternalRCCConfig}
-use Rattle.plan.specs.Plan.{plan_of}
-use Rattle.plan.specs.declared.Planned.TheVariants.{Ready}
+use Rattle.plan.specs.Plan.{ready, plan_of}
 use Rattle.plan.proofs.View.{planned_derived}
 use Rattle.plan.proofs.Theorems.{plan_is_configured, plan_is_derived}
+use Rattle.order.specs.declared.wait.Awaited.TheVariants.{Hsi}
 use Rattle.order.specs.Places.{PLACES}
 use Rattle.order.specs.Files.{applies}
 use Rattle.order.specs.Order.{Op, pll_stored, ops_of, STORES, WAITS, stores_of, waits, waits_by}
-use Rattle.startup.specs.Start.{Ending, at_end, at_cut, at_wait, walk, outcome_of, started_of, start_of}
+use Rattle.startup.specs.Start.{done_with, cut_with, Ending, at_end, at_cut, at_wait, walk, outcome_of, started_of, start_of}
 use Rattle.startup.specs.Cuts.{Leaves, whole, first, before, Comes, away, over, Try, tried, Switched}
 use Rattle.order.specs.Fields.{fields_of, names, Holds}
 use Rattle.order.specs.Safe.{Settled, Safe}
 use Rattle.order.specs.Back.{Reads, Powered}
-use Rattle.startup.specs.declared.Outcome.TheVariants.{Done, Cut, Unanswered}
+use Rattle.startup.specs.declared.Outcome.TheVariants.{Unanswered}
 use Rattle.startup.specs.declared.Started.{Started}
 use Rattle.order.proofs.Restart.{restart}
 use Rattle.order.proofs.Looks.{first_stores}
@@ -33,6 +34,7 @@ use Rattle.order.proofs.Touched.{list_holds, list_keeps}
 use Rattle.order.proofs.Safe.{safe_list, settled}
 use Rattle.order.proofs.Back.{reads_back, powered}
 use Rattle.startup.proofs.Leaving.{leaves, polls_few, ones_polls, ones_end, ones_cut, waits_whole}
+use Rattle.startup.proofs.Told.{pair, pair_told, done_told, cut_told, plan_told}
 use Rattle.startup.proofs.View.{apart, StartView, bad_limit, not_planned, ran, start_view}
 
 -- whatever a walk leaves is what some first stores of its list make of the file, no more than the cut allows
@@ -48,34 +50,35 @@ module _ {x : Clocks} {y : InternalRCCConfig} {os : List Op} {f : List ℕ} {lim
   come_first r (away o) = (0, omega arith, refl)
   come_first r (over b l h) = first_place l
 
-  come_done : (r : Started) → Comes x y os f lim cut r → (z : Clocks) (v : InternalRCCConfig) → r.outcome ≡ Done z v → (z ≡ x) × (v ≡ y) × (r.file ≡ applies f (stores_of os))
+  come_done : (r : Started) → Comes x y os f lim cut r → (z : Clocks) (v : InternalRCCConfig) → r.outcome ≡ done_with z v → (z ≡ x) × (v ≡ y) × (r.file ≡ applies f (stores_of os))
   come_done r (away o) z v e = absurd (let q : ◌≡◌ {A = ℕ} 0 1 = cc in omega arith)
-  come_done r (over {e = at_end} b (whole h) i) z v e = (cc, cc, refl)
+  come_done r (over {e = at_end} b (whole h) i) z v e = let q = done_told e in (sym q.0, sym q.1, refl)
   come_done r (over {e = at_cut} b (first h) i) z v e = absurd (let q : ◌≡◌ {A = ℕ} 0 1 = cc in omega arith)
   come_done r (over {e = at_wait k} b (before a g u h) i) z v e = absurd (let q : ◌≡◌ {A = ℕ} 0 1 = cc in omega arith)
 
-  come_cut : (r : Started) → Comes x y os f lim cut r → (z : Clocks) (v : InternalRCCConfig) → r.outcome ≡ Cut z v → (z ≡ x) × (v ≡ y) × (cut ≤ length (stores_of os)) × (r.file ≡ applies f (take cut (stores_of os)))
+  come_cut : (r : Started) → Comes x y os f lim cut r → (z : Clocks) (v : InternalRCCConfig) → r.outcome ≡ cut_with z v → (z ≡ x) × (v ≡ y) × (cut ≤ length (stores_of os)) × (r.file ≡ applies f (take cut (stores_of os)))
   come_cut r (away o) z v e = absurd (let q : ◌≡◌ {A = ℕ} 0 1 = cc in omega arith)
   come_cut r (over {e = at_end} b l i) z v e = absurd (let q : ◌≡◌ {A = ℕ} 0 1 = cc in omega arith)
-  come_cut r (over {e = at_cut} b (first h) i) z v e = (cc, cc, h, refl)
+  come_cut r (over {e = at_cut} b (first h) i) z v e = let q = cut_told e in (sym q.0, sym q.1, h, refl)
   come_cut r (over {e = at_wait k} b l i) z v e = absurd (let q : ◌≡◌ {A = ℕ} 0 1 = cc in omega arith)
 
 -- what the switch to HSI says of how a start came about: at least two stores were made
 come_switched : (d : CFGR) (y : InternalRCCConfig) (x : Clocks) (f : List ℕ) (lim cut : ℕ) (r : Started) → Comes x y (ops_of d y) f lim cut r → Switched cut r
     → (n : ℕ) × (2 ≤ n) × (r.file ≡ applies f (take n (stores_of (ops_of d y))))
-come_switched d y x f lim cut r (away o) s = absurd (s.taken 13 refl)
+come_switched d y x f lim cut r (away o) s = absurd (s.taken PollLimit refl)
 come_switched d y x f lim cut r (over {e = at_end} b (whole h) i) s =
     (length (stores_of (ops_of d y)), let l = stores_least d y in omega arith, ap (applies f) (sym (take-length (stores_of (ops_of d y)))))
 come_switched d y x f lim cut r (over {e = at_cut} b (first h) i) s = (cut, s.stores, refl)
 come_switched d y x f lim cut r (over {e = at_wait k} b (before a g u h) i) s =
-    (length (stores_of a), two_before d y a g k u (λ (e : k ≡ 1). s.answered (ap Unanswered e)), ap (applies f) (sym (first_stores (ops_of d y) a g k u)))
+    (length (stores_of a), two_before d y a g k u (λ (e : k ≡ Hsi). s.answered (ap Unanswered e)), ap (applies f) (sym (first_stores (ops_of d y) a g k u)))
 
-module _ (c d : CFGR) (k : ℕ) (x : Clocks) (y : InternalRCCConfig) (p : plan_of c ≡ Ready d k x y) where
+module _ (c d : CFGR) (k : ℕ) (x : Clocks) (y : InternalRCCConfig) (p : plan_of c ≡ ready d k x y) where
   -- the plan's clocks and field codes are those derived from the configuration as planned
   derived : (clocks_of d ≡ x) × (config_of d ≡ y)
   derived =
       let e = sym (planned_derived c d k (plan_is_configured c d k x y p).0) ∙ plan_is_derived c d k x y p in
-      (let q : clocks_of d ≡ x = cc in q, let q : config_of d ≡ y = cc in q)
+      let q : pair (clocks_of d) (config_of d) ≡ pair x y = cc in
+      pair_told q
 
   module _ (f : List ℕ) (lim : ℕ) (xs : List ℕ) (cut : ℕ) where
     -- within its limits a start is the walk of the list
@@ -92,7 +95,7 @@ module _ (c d : CFGR) (k : ℕ) (x : Clocks) (y : InternalRCCConfig) (p : plan_o
         from : (r : Started) → StartView c f lim xs cut r → r ≡ started_of x y (walk lim (ops_of d y) cut xs f)
         from r (bad_limit o) = absurd (apart b o)
         from r (not_planned h e) = absurd (let q : ◌≡◌ {A = ℕ} 0 1 = cc in omega arith)
-        from r (ran {d = a} {x = t} {y = v} h e) = same a t v (let q : a ≡ d = cc in q) (let q : t ≡ x = cc in q) (let q : v ≡ y = cc in q)
+        from r (ran {d = a} {x = t} {y = v} h e) = let q = plan_told (sym e ∙ p) in same a t v q.0 q.1 q.2
 
     -- the file of every outcome is the list's first stores applied one by one, as many as the cut or an unanswered wait allows
     pub comes : Comes x y (ops_of d y) f lim cut (start_of c f lim xs cut)
@@ -107,12 +110,12 @@ module _ (c d : CFGR) (k : ℕ) (x : Clocks) (y : InternalRCCConfig) (p : plan_o
         from r g (ran b e) = subst (λ (t : Started). Comes x y (ops_of d y) f lim cut t) (sym (is_walk b) ∙ g) (walked b)
 
     -- a start that is cut made as many stores as the cut says, exactly
-    pub cut_exactly : (z : Clocks) (v : InternalRCCConfig) → (start_of c f lim xs cut).outcome ≡ Cut z v
+    pub cut_exactly : (z : Clocks) (v : InternalRCCConfig) → (start_of c f lim xs cut).outcome ≡ cut_with z v
         → (z ≡ x) × (v ≡ y) × (cut ≤ length (stores_of (ops_of d y))) × ((start_of c f lim xs cut).file ≡ applies f (take cut (stores_of (ops_of d y))))
     cut_exactly = come_cut (start_of c f lim xs cut) comes
 
     -- a cut above the plan's stores cuts nothing
-    pub cuts_nothing : length (stores_of (ops_of d y)) < cut → (z : Clocks) (v : InternalRCCConfig) → (start_of c f lim xs cut).outcome ≡ Cut z v → ⊥
+    pub cuts_nothing : length (stores_of (ops_of d y)) < cut → (z : Clocks) (v : InternalRCCConfig) → (start_of c f lim xs cut).outcome ≡ cut_with z v → ⊥
     cuts_nothing h z v e = let g = (cut_exactly z v e).2 in omega arith
 
     -- every start leaves the file of some cut, refusals 12 and 13 too
@@ -120,7 +123,7 @@ module _ (c d : CFGR) (k : ℕ) (x : Clocks) (y : InternalRCCConfig) (p : plan_o
     first_stores_of = come_first (start_of c f lim xs cut) comes
 
     -- a start that is done hands back the clocks of the plan, and made every store
-    pub done_whole : (z : Clocks) (v : InternalRCCConfig) → (start_of c f lim xs cut).outcome ≡ Done z v → (z ≡ x) × (v ≡ y) × ((start_of c f lim xs cut).file ≡ applies f (stores_of (ops_of d y)))
+    pub done_whole : (z : Clocks) (v : InternalRCCConfig) → (start_of c f lim xs cut).outcome ≡ done_with z v → (z ≡ x) × (v ≡ y) × ((start_of c f lim xs cut).file ≡ applies f (stores_of (ops_of d y)))
     done_whole = come_done (start_of c f lim xs cut) comes
 
     -- a place that is no field of the plan keeps what the file had, whatever comes of the start
@@ -134,11 +137,11 @@ module _ (c d : CFGR) (k : ℕ) (x : Clocks) (y : InternalRCCConfig) (p : plan_o
         subst (λ (g : List ℕ). Safe d y g) (sym t.2) (safe_list d y f t.0 l t.1)
 
     -- a start that is done leaves each field of the plan at the plan's value, whatever the file was
-    pub done_holds : length f ≡ PLACES → (z : Clocks) (v : InternalRCCConfig) → (start_of c f lim xs cut).outcome ≡ Done z v → Holds (fields_of d y) (start_of c f lim xs cut).file
+    pub done_holds : length f ≡ PLACES → (z : Clocks) (v : InternalRCCConfig) → (start_of c f lim xs cut).outcome ≡ done_with z v → Holds (fields_of d y) (start_of c f lim xs cut).file
     done_holds l z v e = subst (λ (g : List ℕ). Holds (fields_of d y) g) (sym (done_whole z v e).2) (list_holds d y f l)
 
     -- the file that a start leaves reads back as the plan's clocks: drivers' clocks and stored fields can't drift apart
-    pub done_reads : length f ≡ PLACES → (z : Clocks) (v : InternalRCCConfig) → (start_of c f lim xs cut).outcome ≡ Done z v
+    pub done_reads : length f ≡ PLACES → (z : Clocks) (v : InternalRCCConfig) → (start_of c f lim xs cut).outcome ≡ done_with z v
         → (z ≡ x) × (v ≡ y) × Reads x (start_of c f lim xs cut).file × (pll_stored d.pll ≡ true → Powered x (start_of c f lim xs cut).file)
     done_reads l z v e = ((done_whole z v e).0, (done_whole z v e).1, read.0, read.1)
       where
@@ -154,7 +157,7 @@ module _ (c d : CFGR) (k : ℕ) (x : Clocks) (y : InternalRCCConfig) (p : plan_o
 
   -- demand 3, second half: over what any start of the plan left, and over the first file, a start that is done ends in one file
   pub same_end : (f : List ℕ) (lim : ℕ) (xs : List ℕ) (cut : ℕ) (lim' : ℕ) (xs' : List ℕ) (cut' : ℕ) (lim'' : ℕ) (xs'' : List ℕ) (cut'' : ℕ) (z w : Clocks) (v u : InternalRCCConfig)
-      → (start_of c f lim' xs' cut').outcome ≡ Done z v → (start_of c (start_of c f lim xs cut).file lim'' xs'' cut'').outcome ≡ Done w u
+      → (start_of c f lim' xs' cut').outcome ≡ done_with z v → (start_of c (start_of c f lim xs cut).file lim'' xs'' cut'').outcome ≡ done_with w u
       → (start_of c (start_of c f lim xs cut).file lim'' xs'' cut'').file ≡ (start_of c f lim' xs' cut').file
   same_end f lim xs cut lim' xs' cut' lim'' xs'' cut'' z w v u a b =
       let s = first_stores_of f lim xs cut in
@@ -164,7 +167,7 @@ module _ (c d : CFGR) (k : ℕ) (x : Clocks) (y : InternalRCCConfig) (p : plan_o
       ∙ sym (done_whole f lim' xs' cut' z v a).2
 
   -- a cut of 0 ends it before the first store, whatever the answers
-  pub cut_at_0 : (f : List ℕ) (lim : ℕ) (xs : List ℕ) → Between 1 65535 lim → start_of c f lim xs 0 ≡ record { outcome = Cut x y; polls = 0; file = f }
+  pub cut_at_0 : (f : List ℕ) (lim : ℕ) (xs : List ℕ) → Between 1 65535 lim → start_of c f lim xs 0 ≡ record { outcome = cut_with x y; polls = 0; file = f }
   cut_at_0 f lim xs b = is_walk f lim xs 0 b
 
   -- ---- answers that answer every wait exist: as many 1s as the plan has waits, whatever follows them
@@ -183,7 +186,7 @@ module _ (c d : CFGR) (k : ℕ) (x : Clocks) (y : InternalRCCConfig) (p : plan_o
     one_poll_a_wait = ap (λ (r : Started). r.polls) walked ∙ subst (λ (m : ℕ). (walk m (ops_of d y) cut ones f).polls ≡ waits_by (ops_of d y) cut) limit (ones_polls (lim - 1) (ops_of d y) cut ys f)
 
     -- with a cut above the plan's stores the start is done
-    pub answered : length (stores_of (ops_of d y)) < cut → ((start_of c f lim ones cut).outcome ≡ Done x y) × ((start_of c f lim ones cut).polls ≡ waits (ops_of d y))
+    pub answered : length (stores_of (ops_of d y)) < cut → ((start_of c f lim ones cut).outcome ≡ done_with x y) × ((start_of c f lim ones cut).polls ≡ waits (ops_of d y))
     answered h = (
       ap (λ (r : Started). r.outcome) walked
           ∙ ap (outcome_of x y) (subst (λ (m : ℕ). (walk m (ops_of d y) cut ones f).ending ≡ at_end) limit (ones_end (lim - 1) (ops_of d y) cut ys f h)),
@@ -191,7 +194,7 @@ module _ (c d : CFGR) (k : ℕ) (x : Clocks) (y : InternalRCCConfig) (p : plan_o
     )
 
     -- with another it is cut there: the file of each cut is one that is handed back
-    pub cut_there : cut ≤ length (stores_of (ops_of d y)) → (start_of c f lim ones cut).outcome ≡ Cut x y
+    pub cut_there : cut ≤ length (stores_of (ops_of d y)) → (start_of c f lim ones cut).outcome ≡ cut_with x y
     cut_there h =
         ap (λ (r : Started). r.outcome) walked
         ∙ ap (outcome_of x y) (subst (λ (m : ℕ). (walk m (ops_of d y) cut ones f).ending ≡ at_cut) limit (ones_cut (lim - 1) (ops_of d y) cut ys f h))

@@ -8,16 +8,18 @@ use mathlib.Core.List.{List, [], ◌∷◌, ◌++◌}
 use lib.ListN.{length}
 use Rattle.kinds.specs.Table.{Between}
 use Rattle.kinds.specs.declared.CFGR.{CFGR}
+use Rattle.kinds.specs.declared.refusals.Refusal.{Refusal}
+use Rattle.kinds.specs.declared.refusals.Refusal.TheVariants.{PollLimit}
 use Rattle.clocks.specs.declared.Clocks.{Clocks}
 use Rattle.clocks.specs.declared.InternalRCCConfig.{InternalRCCConfig}
-use Rattle.plan.specs.Plan.{plan_of}
-use Rattle.plan.specs.declared.Planned.TheVariants.{Ready}
+use Rattle.plan.specs.Plan.{ready as plans, plan_of}
 use Rattle.order.specs.Files.{writes}
 use Rattle.order.specs.Order.{Op, put, wait, stores_of, ops_of}
-use Rattle.startup.specs.Start.{polled_of, Ending, at_end, at_cut, at_wait, after, walk, outcome_of, start_of}
+use Rattle.startup.specs.Start.{done_with, cut_with, polled_of, Ending, at_end, at_cut, at_wait, after, walk, outcome_of, start_of}
 use Rattle.startup.specs.Cuts.{Answers, none, store, ready, Reached}
-use Rattle.startup.specs.declared.Outcome.TheVariants.{Done, Cut, Refused}
+use Rattle.startup.specs.declared.Outcome.TheVariants.{Refused}
 use Rattle.startup.specs.declared.Started.{Started}
+use Rattle.startup.proofs.Told.{done_told, cut_told}
 use Rattle.startup.proofs.View.{StartView, bad_limit, not_planned, ran, start_view}
 use Rattle.startup.proofs.Demands.{is_walk}
 
@@ -92,7 +94,7 @@ cut_back lim (wait j ∷ a) b (suc n) xs ys f h (ready r w) = rw r (cut_back lim
 
 -- ---- a start
 -- a refusal is none of a walk's outcomes
-not_refused : (n : ℕ) (x : Clocks) (y : InternalRCCConfig) (e : Ending) → Refused n ≡ outcome_of x y e → ⊥
+not_refused : (n : Refusal) (x : Clocks) (y : InternalRCCConfig) (e : Ending) → Refused n ≡ outcome_of x y e → ⊥
 not_refused n x y at_end h = let q : ◌≡◌ {A = ℕ} 0 1 = cc in omega arith
 not_refused n x y at_cut h = let q : ◌≡◌ {A = ℕ} 0 1 = cc in omega arith
 not_refused n x y (at_wait k) h = let q : ◌≡◌ {A = ℕ} 0 1 = cc in omega arith
@@ -100,7 +102,7 @@ not_refused n x y (at_wait k) h = let q : ◌≡◌ {A = ℕ} 0 1 = cc in omega 
 module _ (c : CFGR) (f : List ℕ) (lim : ℕ) (xs : List ℕ) (cut : ℕ) (x : Clocks) (y : InternalRCCConfig) where
   -- the limit is good, the plan accepted with these clocks and field codes, and P holds of its list
   abbrev Runs : (List Op → Type 0) → Type 0
-  Runs P = Between 1 65535 lim × ((d : CFGR) × (k : ℕ) × (plan_of c ≡ Ready d k x y) × P (ops_of d y))
+  Runs P = Between 1 65535 lim × ((d : CFGR) × (k : ℕ) × (plan_of c ≡ plans d k x y) × P (ops_of d y))
 
   -- of an ending that tells the plan's clocks and field codes
   by_ending : (P : List Op → Type 0) (e : Ending) → ((os : List Op) → ((walk lim os cut xs f).ending ≡ e) ↔ P os)
@@ -108,13 +110,13 @@ module _ (c : CFGR) (f : List ℕ) (lim : ℕ) (xs : List ℕ) (cut : ℕ) (x : 
       → ((start_of c f lim xs cut).outcome ≡ outcome_of x y e) ↔ Runs P
   by_ending P e is told = (forth (start_of c f lim xs cut) (start_view c f lim xs cut), back)
     where
-      same : (d : CFGR) (k : ℕ) (t : Clocks) (v : InternalRCCConfig) → t ≡ x → v ≡ y → plan_of c ≡ Ready d k t v → P (ops_of d v)
-          → (a : CFGR) × (j : ℕ) × (plan_of c ≡ Ready a j x y) × P (ops_of a y)
-      same d k t v g h p w = (d, k, p ∙ ap (λ (i : Clocks). Ready d k i v) g ∙ ap (Ready d k x) h, subst (λ (i : InternalRCCConfig). P (ops_of d i)) h w)
+      same : (d : CFGR) (k : ℕ) (t : Clocks) (v : InternalRCCConfig) → t ≡ x → v ≡ y → plan_of c ≡ plans d k t v → P (ops_of d v)
+          → (a : CFGR) × (j : ℕ) × (plan_of c ≡ plans a j x y) × P (ops_of a y)
+      same d k t v g h p w = (d, k, p ∙ ap (λ (i : Clocks). plans d k i v) g ∙ ap (plans d k x) h, subst (λ (i : InternalRCCConfig). P (ops_of d i)) h w)
 
       forth : (r : Started) → StartView c f lim xs cut r → r.outcome ≡ outcome_of x y e → Runs P
-      forth r (bad_limit o) h = absurd (not_refused 13 x y e h)
-      forth r (not_planned {n = n} b p) h = absurd (not_refused n x y e h)
+      forth r (bad_limit o) h = absurd (not_refused PollLimit x y e h)
+      forth r (not_planned {u = u} b p) h = absurd (not_refused u.refusal x y e h)
       forth r (ran {d = d} {k = k} {x = t} {y = v} b p) h =
           let g = told t v (walk lim (ops_of d v) cut xs f).ending h in
           (b, same d k t v g.0 g.1 p ((is (ops_of d v)).0 g.2))
@@ -124,23 +126,23 @@ module _ (c : CFGR) (f : List ℕ) (lim : ℕ) (xs : List ℕ) (cut : ℕ) (x : 
 
   -- done, with these clocks and field codes, exactly if the limit is good, the plan accepted with them, the cut above its stores and
   -- every wait answered
-  pub done_exactly : ((start_of c f lim xs cut).outcome ≡ Done x y)
-      ↔ (Between 1 65535 lim × ((d : CFGR) × (k : ℕ) × (plan_of c ≡ Ready d k x y) × ((length (stores_of (ops_of d y)) < cut) × ((ys : List ℕ) × Answers lim (ops_of d y) xs ys))))
+  pub done_exactly : ((start_of c f lim xs cut).outcome ≡ done_with x y)
+      ↔ (Between 1 65535 lim × ((d : CFGR) × (k : ℕ) × (plan_of c ≡ plans d k x y) × ((length (stores_of (ops_of d y)) < cut) × ((ys : List ℕ) × Answers lim (ops_of d y) xs ys))))
   done_exactly = by_ending (Whole lim cut xs) at_end (λ os. (to_end lim os cut xs f, λ w. end_back lim os cut xs w.1.0 f w.0 w.1.1)) told
     where
-      told : (t : Clocks) (v : InternalRCCConfig) (i : Ending) → outcome_of t v i ≡ Done x y → (t ≡ x) × (v ≡ y) × (i ≡ at_end)
-      told t v at_end h = (cc, cc, refl)
+      told : (t : Clocks) (v : InternalRCCConfig) (i : Ending) → outcome_of t v i ≡ done_with x y → (t ≡ x) × (v ≡ y) × (i ≡ at_end)
+      told t v at_end h = let q = done_told h in (q.0, q.1, refl)
       told t v at_cut h = absurd (let q : ◌≡◌ {A = ℕ} 0 1 = cc in omega arith)
       told t v (at_wait k) h = absurd (let q : ◌≡◌ {A = ℕ} 0 1 = cc in omega arith)
 
   -- cut, with these clocks and field codes, exactly if the limit is good, the plan accepted with them and the cut reached: each wait
   -- before the store that it names answered
-  pub cut_reached_exactly : ((start_of c f lim xs cut).outcome ≡ Cut x y)
-      ↔ (Between 1 65535 lim × ((d : CFGR) × (k : ℕ) × (plan_of c ≡ Ready d k x y) × Reached lim (ops_of d y) cut xs))
+  pub cut_reached_exactly : ((start_of c f lim xs cut).outcome ≡ cut_with x y)
+      ↔ (Between 1 65535 lim × ((d : CFGR) × (k : ℕ) × (plan_of c ≡ plans d k x y) × Reached lim (ops_of d y) cut xs))
   cut_reached_exactly = by_ending (λ os. Reached lim os cut xs) at_cut
       (λ os. (to_cut lim os cut xs f, λ s. ap (λ (l : List Op). (walk lim l cut xs f).ending) s.is ∙ cut_back lim s.done s.rest cut xs s.left f s.made s.answered)) told
     where
-      told : (t : Clocks) (v : InternalRCCConfig) (i : Ending) → outcome_of t v i ≡ Cut x y → (t ≡ x) × (v ≡ y) × (i ≡ at_cut)
+      told : (t : Clocks) (v : InternalRCCConfig) (i : Ending) → outcome_of t v i ≡ cut_with x y → (t ≡ x) × (v ≡ y) × (i ≡ at_cut)
       told t v at_end h = absurd (let q : ◌≡◌ {A = ℕ} 0 1 = cc in omega arith)
-      told t v at_cut h = (cc, cc, refl)
+      told t v at_cut h = let q = cut_told h in (q.0, q.1, refl)
       told t v (at_wait k) h = absurd (let q : ◌≡◌ {A = ℕ} 0 1 = cc in omega arith)

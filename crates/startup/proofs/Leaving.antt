@@ -6,6 +6,7 @@ use mathlib.Core.Path.{◌≡◌, refl, ap}
 use mathlib.Core.List.{List, [], ◌∷◌, ◌++◌}
 use mathlib.Core.Bool.{Bool, true, false, cond}
 use lib.ListN.{length, replicate}
+use Rattle.order.specs.declared.wait.Awaited.{Awaited}
 use Rattle.order.specs.Files.{writes}
 use Rattle.order.specs.Order.{Op, put, wait, stores_of, waits, waits_by}
 use Rattle.startup.specs.Start.{polled_of, Ending, at_end, at_cut, at_wait, after, walk}
@@ -18,7 +19,7 @@ after_store (whole h) = whole (omega arith)
 after_store (first h) = first (omega arith)
 after_store {ws} (before a b e h) = before (put ws ∷ a) b (ap (λ (l : List Op). put ws ∷ l) e) (omega arith)
 
-after_wait : {k : ℕ} {os : List Op} {n : ℕ} {f g : List ℕ} {e : Ending} → Leaves os n f e g → Leaves (wait k ∷ os) n f e g
+after_wait : {k : Awaited} {os : List Op} {n : ℕ} {f g : List ℕ} {e : Ending} → Leaves os n f e g → Leaves (wait k ∷ os) n f e g
 after_wait (whole h) = whole h
 after_wait (first h) = first h
 after_wait {k} (before a b e h) = before (wait k ∷ a) b (ap (λ (l : List Op). wait k ∷ l) e) h

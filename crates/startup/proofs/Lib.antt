@@ -5,6 +5,7 @@ pub mod Walking
 pub mod Starting
 pub mod Leaving
 pub mod Silent
+pub mod Told
 pub mod View
 pub mod Demands
 pub mod Refusals

@@ -9,8 +9,8 @@ use lib.ListN.{length, get_or, drop, drop_of_length-le}
 use lib.Seq.{drop-cons}
 use borrow.Author.Tests.{lt-ltb, le-ltb, eq-eqb, ne_eqb, ltb-true, ltb-false}
 use Rattle.startup.specs.Start.{Polled, again, polled_of}
-use Rattle.startup.specs.Machine.{poll_of}
-use Rattle.startup.specs.declared.machine.Poll.{Poll}
+use Rattle.startup.specs.Machine.{Poll, poll_of, Polls}
+use Rattle.startup.specs.declared.machine.Machine.{Machine}
 
 module _ (xs : List ℕ) (at lim k : ℕ) where
   pub hit : k < lim → at < length xs → get_or xs at 0 ≡ 1 → poll_of xs at (lim - k) k ≡ record { ready = true; polls = k + 1; at = at + 1 }
@@ -28,6 +28,54 @@ module _ (xs : List ℕ) (at lim k : ℕ) where
   pub over : lim ≤ k → poll_of xs at (lim - k) k ≡ record { ready = false; polls = k; at = at }
   unfolding poll_of
   over h = let e : lim - k ≡ 0 = omega arith in rw e
+
+-- ---- the machine as its polls are made
+-- n is m after k polls, none of them ready, of a wait that may poll lim times
+pub record Polling (xs : List ℕ) (lim : ℕ) (m : Machine) (k : ℕ) (n : Machine) : Type 0 where
+  pub file : n.file ≡ m.file
+  pub left : n.left ≡ m.left
+  pub polls : n.polls ≡ m.polls + k
+  pub stop : n.stop ≡ m.stop
+  pub rest : poll_of xs m.at lim 0 ≡ poll_of xs n.at (lim - k) k
+
+-- one poll more, ys being the answers as they are read
+module _ {xs ys : List ℕ} {lim : ℕ} {m : Machine} {k : ℕ} {n : Machine} (s : Polling xs lim m k n) (g : ys ≡ xs) (h : k < lim) where
+  -- it takes a byte that is 1
+  pub ready : n.at < length ys → get_or ys n.at 0 ≡ 1
+      → Polls xs lim m true (record { file = n.file; left = n.left; polls = n.polls + 1; at = n.at + 1; stop = n.stop })
+  ready i b =
+      let e : poll_of xs m.at lim 0 ≡ record { ready = true; polls = k + 1; at = n.at + 1 } = s.rest ∙ hit xs n.at lim k h (rw (← g) i) (rw (← g) b) in
+      let p : n.polls + 1 ≡ m.polls + (k + 1) = omega (arith, s.polls) in
+      record { told = rw e refl; is = rw (e, ← p, ← s.file, ← s.left, ← s.stop) }
+
+  -- another byte
+  pub missed : n.at < length ys → (get_or ys n.at 0 ≡ 1 → ⊥)
+      → Polling xs lim m (k + 1) (record { file = n.file; left = n.left; polls = n.polls + 1; at = n.at + 1; stop = n.stop })
+  missed i b =
+      record {
+        file = s.file;
+        left = s.left;
+        polls = omega (arith, s.polls);
+        stop = s.stop;
+        rest = s.rest ∙ miss xs n.at lim k h (rw (← g) i) (λ e. b (rw g e));
+      }
+
+  -- or none, past the end
+  pub passed : length ys ≤ n.at → Polling xs lim m (k + 1) (record { file = n.file; left = n.left; polls = n.polls + 1; at = n.at; stop = n.stop })
+  passed i =
+      record {
+        file = s.file;
+        left = s.left;
+        polls = omega (arith, s.polls);
+        stop = s.stop;
+        rest = s.rest ∙ past xs n.at lim k h (rw (← g) i);
+      }
+
+-- none was ready
+pub silent : {xs : List ℕ} {lim : ℕ} {m : Machine} {k : ℕ} {n : Machine} → Polling xs lim m k n → k ≡ lim → Polls xs lim m false n
+silent {xs} {lim} {m} {k} {n} s h =
+    let e : poll_of xs m.at lim 0 ≡ record { ready = false; polls = k; at = n.at } = s.rest ∙ over xs n.at lim k (omega arith) in
+    record { told = rw e refl; is = rw (e, ← s.file, ← s.left, ← s.stop, ← s.polls) }
 
 -- ---- the same over the answers that are left
 -- polls by an index of the answers, k of them made before, come to polls over the answers that are left

@@ -7,14 +7,18 @@ use mathlib.Core.List.{List, ◌∷◌}
 use Rattle.kinds.specs.Table.{Between, Outside}
 use Rattle.kinds.specs.Turns.{First, OneOf}
 use Rattle.kinds.proofs.Turns.{wider, none_is}
+use Rattle.std.specs.Prelude.{Result, Err}
+use Rattle.kinds.specs.Refusals.{number_of as number_of_refusal}
 use Rattle.kinds.specs.declared.CFGR.{CFGR}
 use Rattle.clocks.specs.declared.Clocks.{Clocks}
 use Rattle.clocks.specs.declared.InternalRCCConfig.{InternalRCCConfig}
-use Rattle.plan.specs.Plan.{plan_of, number_of as plan_number}
+use Rattle.plan.specs.Plan.{ready, plan_of, number_of as plan_number}
 use Rattle.plan.specs.Refusals.{PlanRefused, plan_numbers}
 use Rattle.plan.specs.declared.Planned.{Planned}
-use Rattle.plan.specs.declared.Planned.TheVariants.{Refused as NotPlanned, Ready}
+use Rattle.configure.specs.declared.Unplanned.{Unplanned}
 use Rattle.plan.proofs.Theorems.{plan_refuses_exactly, plan_gives_only}
+use Rattle.order.specs.declared.wait.Awaited.{Awaited}
+use Rattle.order.specs.Waits.{wait_number}
 use Rattle.order.specs.Order.{WAITS, ops_of}
 use Rattle.startup.specs.Start.{Ending, at_end, at_cut, at_wait, walk, outcome_of, start_of, start_numbers, number_of}
 use Rattle.startup.specs.Cuts.{Leaves, before, Silent}
@@ -23,6 +27,7 @@ use Rattle.startup.specs.declared.Started.{Started}
 use Rattle.order.proofs.Numbered.{wait_named_lem}
 use Rattle.startup.proofs.Leaving.{leaves}
 use Rattle.startup.proofs.Silent.{silent_exactly}
+use Rattle.startup.proofs.Told.{plan_told}
 use Rattle.startup.proofs.View.{apart, StartView, bad_limit, not_planned, ran, start_view}
 
 -- a walk is refused with 12 alone
@@ -32,8 +37,8 @@ walk_number x y at_cut = inl refl
 walk_number x y (at_wait k) = inr refl
 
 -- a refusal of the plan has one of its numbers
-plan_gives : (c : CFGR) (n k : ℕ) → plan_of c ≡ NotPlanned n k → OneOf (0 ∷ plan_numbers) n
-plan_gives c n k e = subst (λ (z : ℕ). OneOf (0 ∷ plan_numbers) z) (ap (λ (p : Planned). plan_number p) e) (plan_gives_only c)
+plan_gives : (c : CFGR) (u : Unplanned) → plan_of c ≡ Err u → OneOf (0 ∷ plan_numbers) (number_of_refusal u.refusal)
+plan_gives c u e = subst (λ (z : ℕ). OneOf (0 ∷ plan_numbers) z) (ap (λ (p : Result Planned Unplanned). plan_number p) e) (plan_gives_only c)
 
 module _ (c : CFGR) (f : List ℕ) (lim : ℕ) (xs : List ℕ) (cut : ℕ) where
   -- 13 comes first: exactly if the poll limit lies outside 1..65,535
@@ -49,7 +54,7 @@ module _ (c : CFGR) (f : List ℕ) (lim : ℕ) (xs : List ℕ) (cut : ℕ) where
 
       forth : (r : Started) → StartView c f lim xs cut r → number_of r.outcome ≡ 13 → Outside 1 65535 lim
       forth r (bad_limit o) e = o
-      forth r (not_planned {n = n} {k = k} b p) e = absurd (none_is 13 (0 ∷ plan_numbers) tt n (plan_gives c n k p) e)
+      forth r (not_planned {u = u} b p) e = absurd (none_is 13 (0 ∷ plan_numbers) tt (number_of_refusal u.refusal) (plan_gives c u p) e)
       forth r (ran {d = d} {x = x} {y = y} b p) e = absurd (walked x y (walk lim (ops_of d y) cut xs f).ending e)
 
       back : (r : Started) → StartView c f lim xs cut r → Outside 1 65535 lim → number_of r.outcome ≡ 13
@@ -71,13 +76,13 @@ module _ (c : CFGR) (f : List ℕ) (lim : ℕ) (xs : List ℕ) (cut : ℕ) where
 
       forth : (r : Started) → StartView c f lim xs cut r → number_of r.outcome ≡ n → Between 1 65535 lim × First (PlanRefused c) n
       forth r (bad_limit o) e = absurd (t (sym e))
-      forth r (not_planned b p) e = (b, (plan_refuses_exactly c n).0 (ap (λ (q : Planned). plan_number q) p ∙ e))
+      forth r (not_planned b p) e = (b, (plan_refuses_exactly c n).0 (ap (λ (q : Result Planned Unplanned). plan_number q) p ∙ e))
       forth r (ran {d = d} {x = x} {y = y} b p) e = absurd (walked x y (walk lim (ops_of d y) cut xs f).ending e)
 
       back : (r : Started) → StartView c f lim xs cut r → Between 1 65535 lim → plan_number (plan_of c) ≡ n → number_of r.outcome ≡ n
       back r (bad_limit o) b e = absurd (apart b o)
-      back r (not_planned h p) b e = sym (ap (λ (q : Planned). plan_number q) p) ∙ e
-      back r (ran h p) b e = absurd (z (sym e ∙ ap (λ (q : Planned). plan_number q) p))
+      back r (not_planned h p) b e = sym (ap (λ (q : Result Planned Unplanned). plan_number q) p) ∙ e
+      back r (ran h p) b e = absurd (z (sym e ∙ ap (λ (q : Result Planned Unplanned). plan_number q) p))
 
   -- and no other number: 14 is the record's
   pub start_gives_only : OneOf (0 ∷ start_numbers) (number_of (start_of c f lim xs cut).outcome)
@@ -90,7 +95,7 @@ module _ (c : CFGR) (f : List ℕ) (lim : ℕ) (xs : List ℕ) (cut : ℕ) where
 
       from : (r : Started) → StartView c f lim xs cut r → OneOf (0 ∷ start_numbers) (number_of r.outcome)
       from r (bad_limit o) = tt
-      from r (not_planned {n = n} {k = k} b p) = wider (0 ∷ plan_numbers) (0 ∷ start_numbers) tt n (plan_gives c n k p)
+      from r (not_planned {u = u} b p) = wider (0 ∷ plan_numbers) (0 ∷ start_numbers) tt (number_of_refusal u.refusal) (plan_gives c u p)
       from r (ran {d = d} {x = x} {y = y} b p) = walked x y (walk lim (ops_of d y) cut xs f).ending
 
   -- refused otherwise than by 12: the file as it came, and no poll
@@ -109,26 +114,26 @@ module _ (c : CFGR) (f : List ℕ) (lim : ℕ) (xs : List ℕ) (cut : ℕ) where
       from r (ran {d = d} {x = x} {y = y} b p) z w = absurd (walked x y (walk lim (ops_of d y) cut xs f).ending z w)
 
   -- 12 names a wait of the list's
-  pub unanswered_named : (k : ℕ) → (start_of c f lim xs cut).outcome ≡ Unanswered k → Between 1 WAITS k
+  pub unanswered_named : (k : Awaited) → (start_of c f lim xs cut).outcome ≡ Unanswered k → Between 1 WAITS (wait_number k)
   unanswered_named k = from (start_of c f lim xs cut) (start_view c f lim xs cut)
     where
-      walked : (d : CFGR) (x : Clocks) (y : InternalRCCConfig) (e : Ending) (g : List ℕ) → Leaves (ops_of d y) cut f e g → outcome_of x y e ≡ Unanswered k → Between 1 WAITS k
+      walked : (d : CFGR) (x : Clocks) (y : InternalRCCConfig) (e : Ending) (g : List ℕ) → Leaves (ops_of d y) cut f e g → outcome_of x y e ≡ Unanswered k → Between 1 WAITS (wait_number k)
       walked d x y at_end g l h = absurd (let q : ◌≡◌ {A = ℕ} 0 1 = cc in omega arith)
       walked d x y at_cut g l h = absurd (let q : ◌≡◌ {A = ℕ} 0 1 = cc in omega arith)
-      walked d x y (at_wait j) g (before a b u i) h = let q : j ≡ k = cc in let r = wait_named_lem d y a b j u in record { low = omega (arith, r.low); high = omega (arith, r.high) }
+      walked d x y (at_wait j) g (before a b u i) h = let q : j ≡ k = cc in subst (λ (i : Awaited). Between 1 WAITS (wait_number i)) q (wait_named_lem d y a b j u)
 
-      from : (r : Started) → StartView c f lim xs cut r → r.outcome ≡ Unanswered k → Between 1 WAITS k
+      from : (r : Started) → StartView c f lim xs cut r → r.outcome ≡ Unanswered k → Between 1 WAITS (wait_number k)
       from r (bad_limit o) h = absurd (let q : ◌≡◌ {A = ℕ} 0 1 = cc in omega arith)
       from r (not_planned b p) h = absurd (let q : ◌≡◌ {A = ℕ} 0 1 = cc in omega arith)
       from r (ran {d = d} {x = x} {y = y} b p) h = walked d x y (walk lim (ops_of d y) cut xs f).ending (walk lim (ops_of d y) cut xs f).file (leaves lim (ops_of d y) cut xs f) h
 
   -- 12 with the wait k exactly if the limit is good, the plan accepted, and k is the wait that is not answered
-  pub unanswered_exactly : (k : ℕ) → ((start_of c f lim xs cut).outcome ≡ Unanswered k)
-      ↔ (Between 1 65535 lim × ((d : CFGR) × (j : ℕ) × (x : Clocks) × (y : InternalRCCConfig) × (plan_of c ≡ Ready d j x y) × Silent lim (ops_of d y) cut xs k))
+  pub unanswered_exactly : (k : Awaited) → ((start_of c f lim xs cut).outcome ≡ Unanswered k)
+      ↔ (Between 1 65535 lim × ((d : CFGR) × (j : ℕ) × (x : Clocks) × (y : InternalRCCConfig) × (plan_of c ≡ ready d j x y) × Silent lim (ops_of d y) cut xs k))
   unanswered_exactly k = (forth (start_of c f lim xs cut) (start_view c f lim xs cut), λ h. back (start_of c f lim xs cut) (start_view c f lim xs cut) h.0 h.1)
     where
       Is : Type 0
-      Is = (d : CFGR) × (j : ℕ) × (x : Clocks) × (y : InternalRCCConfig) × (plan_of c ≡ Ready d j x y) × Silent lim (ops_of d y) cut xs k
+      Is = (d : CFGR) × (j : ℕ) × (x : Clocks) × (y : InternalRCCConfig) × (plan_of c ≡ ready d j x y) × Silent lim (ops_of d y) cut xs k
 
       ended : (x : Clocks) (y : InternalRCCConfig) (e : Ending) → outcome_of x y e ≡ Unanswered k → e ≡ at_wait k
       ended x y at_end h = absurd (let q : ◌≡◌ {A = ℕ} 0 1 = cc in omega arith)
@@ -150,4 +155,4 @@ module _ (c : CFGR) (f : List ℕ) (lim : ℕ) (xs : List ℕ) (cut : ℕ) where
       back : (r : Started) → StartView c f lim xs cut r → Between 1 65535 lim → Is → r.outcome ≡ Unanswered k
       back r (bad_limit o) b i = absurd (apart b o)
       back r (not_planned h p) b (d, j, x, y, q, s) = absurd (let z : ◌≡◌ {A = ℕ} 0 1 = cc in omega arith)
-      back r (ran {d = a} {x = t} {y = v} h p) b (d, j, x, y, q, s) = same a d t v y (let z : a ≡ d = cc in z) (let z : v ≡ y = cc in z) s
+      back r (ran {d = a} {x = t} {y = v} h p) b (d, j, x, y, q, s) = let z = plan_told (sym p ∙ q) in same a d t v y z.0 z.2 s

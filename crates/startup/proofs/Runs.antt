@@ -1,17 +1,22 @@
 -- A run goes on by one store more, one wait more, a list more; its polls add up, and what had room at its beginning has room after it.
-use Prim.Native.Nat.{ℕ, zero, suc, ◌≤◌}
+use Prim.Native.Nat.{ℕ, zero, suc, ◌+◌, ◌≤◌}
 use native.Mathlib.Omega.{arith}
-use mathlib.Core.Path.{◌≡◌, refl, ◌∙◌, ap, sym, subst}
+use mathlib.Core.Path.{◌≡◌, refl, ◌∙◌, ap, sym}
 use mathlib.Core.Bool.{Bool, true, false, cond, false≢true}
 use lib.Dec.{eqb}
+use Rattle.std.specs.Prelude.{Some, is_none}
 use mathlib.Core.List.{List, [], ◌∷◌, ◌++◌}
 use Rattle.kinds.specs.declared.CFGR.{CFGR}
 use Rattle.clocks.specs.declared.InternalRCCConfig.{InternalRCCConfig}
+use Rattle.order.specs.declared.wait.Awaited.{Awaited}
 use Rattle.order.specs.Files.{Wrote}
 use Rattle.order.specs.Order.{Op, put, wait, ops_of}
 use Rattle.order.proofs.Few.{waits_both, waits_few}
-use Rattle.startup.specs.Machine.{going, runs, store_of, put_of, wait_of, begin_of, Room, Stored, Put, Waited, Ran, Puts}
+use Rattle.startup.specs.Machine.{going, live, runs, store_of, put_of, wait_of, begin_of, Room, Stored, Put, Polls, Waited, Ran}
+use Rattle.startup.specs.Run.{Begun, Same, Goes}
 use Rattle.startup.specs.declared.machine.Machine.{Machine}
+use Rattle.startup.specs.declared.machine.Run.{Run}
+use Rattle.startup.proofs.Polls.{few}
 
 pub both : (xs : List ℕ) (lim : ℕ) (m : Machine) (os ps : List Op) → runs xs lim m (os ++ ps) ≡ runs xs lim (runs xs lim m os) ps
 both xs lim m [] ps = refl
@@ -23,7 +28,7 @@ pub some_left : (m : Machine) → going m ≡ true → 1 ≤ m.left
 unfolding going
 some_left m e = from m.left e
   where
-    from : (n : ℕ) → cond (eqb n 0) false (eqb m.stop 0) ≡ true → 1 ≤ n
+    from : (n : ℕ) → cond (eqb n 0) false (is_none m.stop) ≡ true → 1 ≤ n
     from zero h = absurd (false≢true h)
     from (suc n) h = omega arith
 
@@ -31,6 +36,27 @@ some_left m e = from m.left e
 pub puts : {m : Machine} {ws : List (ℕ × ℕ)} {f : List ℕ} {r : Machine} → Wrote m.file ws f → Stored m f r → Put m ws r
 unfolding put_of
 puts {m} w s = record { is = s.is ∙ ap (store_of m) w.is; polls = s.polls }
+
+-- a wait: its polls and whether one was ready, or nothing where the start has ended
+made : {xs : List ℕ} {lim : ℕ} {m n : Machine} {b : Bool} → lim ≤ 65535 → Polls xs lim m b n → n.polls ≤ m.polls + 65535
+made {xs} {lim} {m} l p = let f = few xs m.at lim 0 in let e = ap (λ (t : Machine). t.polls) p.is in omega arith
+
+pub answered : {xs : List ℕ} {lim : ℕ} {m n : Machine} {k : Awaited} → going m ≡ true → lim ≤ 65535 → Polls xs lim m true n → Waited xs lim m k n
+unfolding wait_of live
+answered g l p = record { is = p.is ∙ simp (g, sym p.told); polls = made l p }
+
+pub unanswered : {xs : List ℕ} {lim : ℕ} {m n : Machine} {k : Awaited} → going m ≡ true → lim ≤ 65535 → Polls xs lim m false n
+    → Waited xs lim m k (record { file = n.file; left = n.left; polls = n.polls; at = n.at; stop = Some k })
+unfolding wait_of live
+unanswered {k = k} g l p =
+    record {
+      is = ap (λ (t : Machine). record { file = t.file; left = t.left; polls = t.polls; at = t.at; stop = Some k }) p.is ∙ simp (g, sym p.told);
+      polls = made l p;
+    }
+
+pub no_wait : {xs : List ℕ} {lim : ℕ} {m : Machine} {k : Awaited} → going m ≡ false → Waited xs lim m k m
+unfolding wait_of live
+no_wait g = record { is = simp g; polls = omega arith }
 
 pub none : {xs : List ℕ} {lim : ℕ} {m : Machine} → Ran xs lim m [] m
 none = record { is = refl; polls = omega arith }
@@ -46,57 +72,55 @@ more {xs} {lim} {m} {os} {ps} r s =
 pub stored : {xs : List ℕ} {lim : ℕ} {m : Machine} {os : List Op} {a b : Machine} {ws : List (ℕ × ℕ)} → Ran xs lim m os a → Put a ws b → Ran xs lim m (os ++ put ws ∷ []) b
 stored r e = more r (record { is = e.is; polls = omega (arith, e.polls) })
 
-pub polled : {xs : List ℕ} {lim : ℕ} {m : Machine} {os : List Op} {a b : Machine} {k : ℕ} → Ran xs lim m os a → Waited xs lim a k b → Ran xs lim m (os ++ wait k ∷ []) b
+pub polled : {xs : List ℕ} {lim : ℕ} {m : Machine} {os : List Op} {a b : Machine} {k : Awaited} → Ran xs lim m os a → Waited xs lim a k b → Ran xs lim m (os ++ wait k ∷ []) b
 polled r e = more r (record { is = e.is; polls = omega (arith, e.polls) })
 
 pub begins : {xs : List ℕ} {lim : ℕ} {m n : Machine} {os : List Op} {b : Machine} → m ≡ n → Ran xs lim m os b → Ran xs lim n os b
 begins {xs} {lim} {m} {n} {os} e r =
     record { is = r.is ∙ ap (λ (t : Machine). runs xs lim t os) e; polls = let p = ap (λ (t : Machine). t.polls) e in omega (arith, r.polls, p) }
 
--- ---- stores with no wait among them
-pub quiet_none : {m : Machine} → Puts m [] m
-quiet_none = record { is = λ xs lim. refl; polls = refl }
+-- ---- a start, whose answers and limit stay as they are
+pub goes_none : {a : Run} → Goes a [] a
+goes_none = record { ran = none; same = record { answers = refl; limit = refl } }
 
-pub quiet : {m : Machine} {os : List Op} {a b : Machine} {ws : List (ℕ × ℕ)} → Puts m os a → Put a ws b → Puts m (os ++ put ws ∷ []) b
-quiet {m} {os} {a} {b} {ws} r e =
+pub goes_more : {a b c : Run} {os ps : List Op} → Goes a os b → Goes b ps c → Goes a (os ++ ps) c
+goes_more {a} {b} {c} {os} {ps} g h =
     record {
-      is = λ xs lim. e.is ∙ ap (λ (t : Machine). put_of t ws) (r.is xs lim) ∙ sym (both xs lim m os (put ws ∷ []));
-      polls = e.polls ∙ r.polls;
+      ran = more g.ran (record {
+        is =
+            h.ran.is
+            ∙ ap (λ (xs : List ℕ). runs xs b.limit b.machine ps) g.same.answers
+            ∙ ap (λ (lim : ℕ). runs a.answers.now lim b.machine ps) g.same.limit;
+        polls = h.ran.polls;
+      });
+      same = record { answers = h.same.answers ∙ g.same.answers; limit = h.same.limit ∙ g.same.limit };
     }
 
--- are a run, whatever the answers
-pub any_run : {xs : List ℕ} {lim : ℕ} {m : Machine} {os : List Op} {r : Machine} → Puts m os r → Ran xs lim m os r
-any_run {xs} {lim} s = record { is = s.is xs lim; polls = omega (arith, s.polls) }
+pub goes_put : {a b c : Run} {os : List Op} {ws : List (ℕ × ℕ)} → Goes a os b → Put b.machine ws c.machine → Same b c → Goes a (os ++ put ws ∷ []) c
+goes_put g e s = goes_more g (record { ran = stored none e; same = s })
+
+pub goes_wait : {a b c : Run} {os : List Op} {k : Awaited} → Goes a os b → Waited b.answers.now b.limit b.machine k c.machine → Same b c → Goes a (os ++ wait k ∷ []) c
+goes_wait g e s = goes_more g (record { ran = polled none e; same = s })
+
+-- from its beginning on
+pub begun_ran : {f : List ℕ} {cut : ℕ} {xs : List ℕ} {lim : ℕ} {a b : Run} {os : List Op} → Begun f cut xs lim a → Goes a os b → Ran xs lim (begin_of f cut) os b.machine
+begun_ran {xs = xs} {a = a} {os = os} s g =
+    begins s.machine (record {
+      is =
+          g.ran.is
+          ∙ ap (λ (ys : List ℕ). runs ys a.limit a.machine os) s.answers
+          ∙ ap (λ (l : ℕ). runs xs l a.machine os) s.limit;
+      polls = g.ran.polls;
+    })
 
 -- ---- room
 -- at the beginning, for every wait of a plan's list
-pub room : {lim : ℕ} {f : List ℕ} {cut : ℕ} {m : Machine} (d : CFGR) (y : InternalRCCConfig) → lim ≤ 65535 → m ≡ begin_of f cut → Room (ops_of d y) lim m
-room d y l e =
+pub room : {f : List ℕ} {cut : ℕ} {m : Machine} (d : CFGR) (y : InternalRCCConfig) → m ≡ begin_of f cut → Room (ops_of d y) m
+room d y e =
     let p = ap (λ (t : Machine). t.polls) e in
     let w = waits_few d y in
-    record { limit = l; polls = omega (arith, p, w) }
+    record { polls = omega (arith, p, w) }
 
--- for a list's first part
-pub first : {os : List Op} (ps : List Op) {lim : ℕ} {m : Machine} → Room (os ++ ps) lim m → Room os lim m
-first {os} ps r = let w = waits_both os ps in record { limit = r.limit; polls = omega (arith, r.polls, w) }
-
--- for what is left, after a part, a store, a wait
-pub after : {xs : List ℕ} {lim : ℕ} {m : Machine} {os ps : List Op} {a : Machine} → Ran xs lim m os a → Room (os ++ ps) lim m → Room ps lim a
-after {os = os} {ps = ps} s r =
-    let w = waits_both os ps in record { limit = r.limit; polls = omega (arith, s.polls, r.polls, w) }
-
-pub after_puts : {lim : ℕ} {m : Machine} {os ps : List Op} {a : Machine} → Puts m os a → Room (os ++ ps) lim m → Room ps lim a
-after_puts s r = after (any_run {xs = []} s) r
-
-pub after_store : {lim : ℕ} {m : Machine} {ws : List (ℕ × ℕ)} {os : List Op} {a : Machine} → Put m ws a → Room (put ws ∷ os) lim m → Room os lim a
-after_store s r = record { limit = r.limit; polls = omega (arith, s.polls, r.polls) }
-
-pub after_wait : {xs : List ℕ} {lim : ℕ} {m : Machine} {k : ℕ} {os : List Op} {a : Machine} → Waited xs lim m k a → Room (wait k ∷ os) lim m → Room os lim a
-after_wait s r = record { limit = r.limit; polls = omega (arith, s.polls, r.polls) }
-
--- for a list that is told to be another; for a section that is there
-pub same : {os ps : List Op} {lim : ℕ} {m : Machine} → os ≡ ps → Room os lim m → Room ps lim m
-same {lim = lim} {m = m} e r = subst (λ (l : List Op). Room l lim m) e r
-
-pub given : {b : Bool} {os : List Op} {lim : ℕ} {m : Machine} → b ≡ true → Room (cond b os []) lim m → Room os lim m
-given {os = os} e r = same (ap (λ (t : Bool). cond t os []) e) r
+-- for what is left after a part
+pub room_after : {a b : Run} {os ps : List Op} → Goes a os b → Room (os ++ ps) a.machine → Room ps b.machine
+room_after {os = os} {ps = ps} g r = let w = waits_both os ps in record { polls = omega (arith, g.ran.polls, r.polls, w) }

@@ -3,9 +3,13 @@
 use Rattle.std.specs.Prelude.{ℕ, ◌*◌, ◌≤◌, ◌<◌, ◌≡◌, true, false, List, [], ◌∷◌, ◌++◌, length, take}
 use Rattle.kinds.specs.Table.{Between, Outside}
 use Rattle.kinds.specs.declared.CFGR.{CFGR}
+use Rattle.kinds.specs.declared.refusals.Refusal.{Refusal}
+use Rattle.kinds.specs.declared.refusals.Refusal.TheVariants.{PollLimit}
 use Rattle.clocks.specs.declared.Clocks.{Clocks}
 use Rattle.clocks.specs.declared.InternalRCCConfig.{InternalRCCConfig}
 use Rattle.order.specs.Files.{Store, applies}
+use Rattle.order.specs.declared.wait.Awaited.{Awaited}
+use Rattle.order.specs.declared.wait.Awaited.TheVariants.{Hsi}
 use Rattle.order.specs.Order.{Op, put, wait, stores_of, waits}
 use Rattle.startup.specs.Start.{Ending, at_end, at_cut, at_wait, polled_of, outcome_of, refused_of, start_of}
 use Rattle.startup.specs.declared.Outcome.TheVariants.{Refused, Unanswered}
@@ -17,16 +21,16 @@ pub data Leaves (os : List Op) (cut : ℕ) (f : List ℕ) : Ending → List ℕ 
   -- cut n means n stores exactly
   first : cut ≤ length (stores_of os) → Leaves os cut f at_cut (applies f (take cut (stores_of os)))
   -- the stores before the wait, which are fewer than the cut allows
-  before : {k : ℕ} (done rest : List Op) → os ≡ done ++ wait k ∷ rest → length (stores_of done) < cut → Leaves os cut f (at_wait k) (applies f (stores_of done))
+  before : {k : Awaited} (done rest : List Op) → os ≡ done ++ wait k ∷ rest → length (stores_of done) < cut → Leaves os cut f (at_wait k) (applies f (stores_of done))
 
 -- every wait of the list is answered, xs being the answers before it and ys those left after it
 pub data Answers (lim : ℕ) : List Op → List ℕ → List ℕ → Type 0 where
   none : {xs : List ℕ} → Answers lim [] xs xs
   store : {ws : Store} {os : List Op} {xs ys : List ℕ} → Answers lim os xs ys → Answers lim (put ws ∷ os) xs ys
-  ready : {k : ℕ} {os : List Op} {xs ys : List ℕ} → (polled_of lim xs).ready ≡ true → Answers lim os (polled_of lim xs).rest ys → Answers lim (wait k ∷ os) xs ys
+  ready : {k : Awaited} {os : List Op} {xs ys : List ℕ} → (polled_of lim xs).ready ≡ true → Answers lim os (polled_of lim xs).rest ys → Answers lim (wait k ∷ os) xs ys
 
 -- the wait k is not answered within the limit: the waits before it are, with fewer stores than the cut allows
-pub record Silent (lim : ℕ) (os : List Op) (cut : ℕ) (xs : List ℕ) (k : ℕ) : Type 0 where
+pub record Silent (lim : ℕ) (os : List Op) (cut : ℕ) (xs : List ℕ) (k : Awaited) : Type 0 where
   pub done : List Op
   pub rest : List Op
   pub left : List ℕ
@@ -47,7 +51,7 @@ pub record Reached (lim : ℕ) (os : List Op) (cut : ℕ) (xs : List ℕ) : Type
 -- what a start of an accepted plan comes to, x being its clocks, y its field codes and os its list: refused by its limit with nothing stored, or walked,
 -- with no more polls than the limit for each wait
 pub data Comes (x : Clocks) (y : InternalRCCConfig) (os : List Op) (f : List ℕ) (lim cut : ℕ) : Started → Type 0 where
-  away : Outside 1 65535 lim → Comes x y os f lim cut (refused_of 13 f)
+  away : Outside 1 65535 lim → Comes x y os f lim cut (refused_of PollLimit f)
   over : {e : Ending} {g : List ℕ} {n : ℕ} → Between 1 65535 lim → Leaves os cut f e g → n ≤ waits os * lim
       → Comes x y os f lim cut (record { outcome = outcome_of x y e; polls = n; file = g })
 
@@ -64,5 +68,5 @@ tried c f (t ∷ l) = tried c (start_of c f t.limit t.answers t.cut).file l
 -- a start that made the switch to HSI: its cut allows two stores, it was not refused, and HSI's own wait was answered
 pub record Switched (cut : ℕ) (r : Started) : Type 0 where
   pub stores : 2 ≤ cut
-  pub taken : (n : ℕ) → r.outcome ≡ Refused n → ⊥
-  pub answered : r.outcome ≡ Unanswered 1 → ⊥
+  pub taken : (n : Refusal) → r.outcome ≡ Refused n → ⊥
+  pub answered : r.outcome ≡ Unanswered Hsi → ⊥

@@ -2,3 +2,4 @@
 pub mod Start
 pub mod Cuts
 pub mod Machine
+pub mod Run

@@ -1,14 +1,18 @@
 -- Document 01, "Start-up": what a start answers: the list walked from its first store on, up to the cut or a wait that is not answered.
-use Rattle.std.specs.Prelude.{ℕ, zero, suc, ◌+◌, Bool, true, false, cond, List, [], ◌∷◌, eqb}
+use Rattle.std.specs.Prelude.{ℕ, zero, suc, ◌+◌, Bool, true, false, cond, List, [], ◌∷◌, eqb, Result, Ok, Err}
 use Rattle.kinds.specs.Limits.{outside_of}
+use Rattle.kinds.specs.Refusals.{refusal_of, number_of as number_of_refusal}
 use Rattle.kinds.specs.declared.CFGR.{CFGR}
 use Rattle.clocks.specs.declared.Clocks.{Clocks}
 use Rattle.clocks.specs.declared.InternalRCCConfig.{InternalRCCConfig}
 use Rattle.plan.specs.Plan.{plan_of}
 use Rattle.plan.specs.Refusals.{plan_numbers}
 use Rattle.plan.specs.declared.Planned.{Planned}
-use Rattle.plan.specs.declared.Planned.TheVariants.{Refused as NotPlanned, Ready}
+use Rattle.configure.specs.declared.Unplanned.{Unplanned}
+use Rattle.kinds.specs.declared.refusals.Refusal.{Refusal}
 use Rattle.order.specs.Files.{writes}
+use Rattle.order.specs.declared.wait.Awaited.{Awaited}
+use Rattle.order.specs.Waits.{wait_number}
 use Rattle.order.specs.Order.{Op, put, wait, ops_of}
 use Rattle.startup.specs.declared.Outcome.{Outcome}
 use Rattle.startup.specs.declared.Outcome.TheVariants.{Done, Cut, Refused, Unanswered}
@@ -34,7 +38,7 @@ polled_of (suc n) (x ∷ xs) = cond (eqb x 1) (record { ready = true; polls = 1;
 pub data Ending : Type 0 where
   at_end : Ending
   at_cut : Ending
-  at_wait : ℕ → Ending
+  at_wait : Awaited → Ending
 
 pub record Walked : Type 0 where
   pub ending : Ending
@@ -63,22 +67,28 @@ walk lim (wait k ∷ os) (suc n) xs f =
     (record { ending = at_wait k; file = f; polls = (polled_of lim xs).polls })
 
 -- the clocks and field codes of the plan go with an answer that is no refusal
+abbrev pub done_with : Clocks → InternalRCCConfig → Outcome
+done_with x y = Done (record { clocks = x; config = y })
+
+abbrev pub cut_with : Clocks → InternalRCCConfig → Outcome
+cut_with x y = Cut (record { clocks = x; config = y })
+
 abbrev pub outcome_of : Clocks → InternalRCCConfig → Ending → Outcome
-outcome_of x y at_end = Done x y
-outcome_of x y at_cut = Cut x y
+outcome_of x y at_end = done_with x y
+outcome_of x y at_cut = cut_with x y
 outcome_of x y (at_wait k) = Unanswered k
 
 abbrev pub started_of : Clocks → InternalRCCConfig → Walked → Started
 started_of x y w = record { outcome = outcome_of x y w.ending; polls = w.polls; file = w.file }
 
 -- a refusal other than 12 hands back the file as it came, and 0 polls
-abbrev pub refused_of : ℕ → List ℕ → Started
-refused_of n f = record { outcome = Refused n; polls = 0; file = f }
+abbrev pub refused_of : Refusal → List ℕ → Started
+refused_of r f = record { outcome = Refused r; polls = 0; file = f }
 
 -- the plan's refusals, or its list
-unfoldable pub planned_start : Planned → List ℕ → ℕ → List ℕ → ℕ → Started
-planned_start (NotPlanned n k) f lim xs cut = refused_of n f
-planned_start (Ready d k x y) f lim xs cut = started_of x y (walk lim (ops_of d y) cut xs f)
+unfoldable pub planned_start : Result Planned Unplanned → List ℕ → ℕ → List ℕ → ℕ → Started
+planned_start (Err u) f lim xs cut = refused_of u.refusal f
+planned_start (Ok p) f lim xs cut = started_of p.derived.clocks p.derived.config (walk lim (ops_of p.cfgr p.derived.config) cut xs f)
 
 -- 13: poll limit outside 1..65,535
 abbrev pub limit_of : ℕ → ℕ
@@ -86,21 +96,21 @@ limit_of lim = outside_of 1 65535 13 lim
 
 -- configuration, file, poll limit, answers, cut. 13 comes first; a start plans for itself
 unfoldable pub start_of : CFGR → List ℕ → ℕ → List ℕ → ℕ → Started
-start_of c f lim xs cut = cond (eqb (limit_of lim) 0) (planned_start (plan_of c) f lim xs cut) (refused_of (limit_of lim) f)
+start_of c f lim xs cut = cond (eqb (limit_of lim) 0) (planned_start (plan_of c) f lim xs cut) (refused_of (refusal_of (limit_of lim)) f)
 
 -- the numbers that a start can be refused with: the plan's, 13, and 12
 abbrev pub start_numbers : List ℕ
 start_numbers = 12 ∷ 13 ∷ plan_numbers
 
--- document 01's number of an outcome, and the wait that 12 names
+-- document 01's number of an outcome, and the number of the wait that 12 names
 abbrev pub number_of : Outcome → ℕ
-number_of (Done x y) = 0
-number_of (Cut x y) = 0
-number_of (Refused n) = n
+number_of (Done d) = 0
+number_of (Cut d) = 0
+number_of (Refused r) = number_of_refusal r
 number_of (Unanswered k) = 12
 
 abbrev pub wait_named : Outcome → ℕ
-wait_named (Done x y) = 0
-wait_named (Cut x y) = 0
-wait_named (Refused n) = 0
-wait_named (Unanswered k) = k
+wait_named (Done d) = 0
+wait_named (Cut d) = 0
+wait_named (Refused r) = 0
+wait_named (Unanswered k) = wait_number k

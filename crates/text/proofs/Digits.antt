@@ -1,13 +1,15 @@
--- The digits of a number: by its last digits, how many there are, and read back they are the number.
-use Prim.Native.Nat.{ℕ, zero, suc, ◌+◌, ◌*◌, ◌-◌, ◌/◌, ◌%◌, ◌^◌, ◌≤◌, ◌<◌}
-use mathlib.Core.Path.{◌≡◌, refl, ap, ◌∙◌}
+-- The digits of a number: they are those that the library writes, and read back they are the number.
+use Prim.Native.Nat.{ℕ, zero, suc, ◌+◌, ◌*◌, ◌-◌, max, ◌/◌, ◌%◌, ◌^◌, ◌≤◌, ◌<◌}
+use mathlib.Core.Path.{◌≡◌, refl, ap, sym}
 use mathlib.Core.Bool.{Bool, true, false}
-use mathlib.Core.List.{List, [], ◌∷◌, ◌++◌, append_assoc}
+use mathlib.Core.List.{List, [], ◌∷◌, ◌++◌}
 use native.Mathlib.Nat.{pow-succ'}
 use native.Mathlib.Omega.{arith}
 use lib.Dec.{ltb}
 use lib.ListN.{length, length-append}
 use borrow.Author.Tests.{ltb-true, ltb-false, lt-ltb, le-ltb}
+use Rattle.std.proofs.lemmas.Fmt.{decimal_by_steps, length-decimal-le}
+use Rattle.std.specs.Fmt.{decimal as written}
 use Rattle.text.specs.Decimal.{decimal, digits_in, glyph}
 
 digits_fuel : (f g n : ℕ) (b : Bool) → ltb n 10 ≡ b → n < f → n < g → digits_in f b n ≡ digits_in g b n
@@ -20,7 +22,7 @@ digits_fuel (suc f) (suc g) n false e p q =
     rw (digits_fuel f g (n / 10) (ltb (n / 10) 10) refl (omega arith) (omega arith))
 
 -- one digit
-pub one : (n : ℕ) → n < 10 → decimal n ≡ glyph n ∷ []
+one : (n : ℕ) → n < 10 → decimal n ≡ glyph n ∷ []
 unfolding decimal digits_in
 one n h = rw (lt-ltb n 10 h)
 
@@ -30,35 +32,22 @@ more n h =
     rw (le-ltb n 10 h)
     (ap (λ (l : List ℕ). l ++ (glyph (n % 10) ∷ [])) (digits_fuel n (suc (n / 10)) (n / 10) (ltb (n / 10) 10) refl (omega arith) (omega arith)))
 
--- two digits
-pub two : (n : ℕ) → 10 ≤ n → n < 100 → decimal n ≡ glyph (n / 10) ∷ glyph (n % 10) ∷ []
-two n h l = more n h ∙ rw (one (n / 10) (omega arith))
+-- they are the library's
+pub is_std : (n : ℕ) → n < 2 ^ 64 → written n ≡ decimal n
+is_std n h = decimal_by_steps (λ m ds. ds ≡ decimal m) (λ m l. sym (one m l)) (λ m ds l e. rw e (sym (more m l))) n h
 
--- the last two of several
-pub last_two : (n : ℕ) → 100 ≤ n → decimal n ≡ decimal (n / 100) ++ (glyph (n % 100 / 10) ∷ glyph (n % 100 % 10) ∷ [])
-last_two n h =
-    let a : n / 10 / 10 ≡ n / 100 = omega arith in
-    let b : n / 10 % 10 ≡ n % 100 / 10 = omega arith in
-    let d : n % 10 ≡ n % 100 % 10 = omega arith in
-    more n (omega arith) ∙ rw (more (n / 10) (omega arith), append_assoc, a, b, d)
-
-pub last_two_count : (n : ℕ) → 100 ≤ n → length (decimal n) ≡ length (decimal (n / 100)) + 2
-last_two_count n h = rw (last_two n h, length-append)
-
--- a number below 10 ^ (k + 1) has at most k + 1 digits
-count_by : (k n : ℕ) → n < 10 ^ suc k → (b : Bool) → ltb n 10 ≡ b → length (decimal n) ≤ suc k
-count_by zero n h true e = rw (one n (ltb-true n 10 e)) (omega arith)
-count_by zero n h false e = absurd (omega (arith, ltb-false n 10 e))
-count_by (suc k) n h true e = rw (one n (ltb-true n 10 e)) (omega arith)
-count_by (suc k) n h false e =
-    let t : 10 ≤ n = ltb-false n 10 e in
-    let p : n < 10 * 10 ^ suc k = rw pow-succ' at h in
-    let q : length (decimal (n / 10)) ≤ suc k = count_by k (n / 10) (omega arith) (ltb (n / 10) 10) refl in
-    rw (more n t, length-append) (omega arith)
+-- a number from 10 ^ k up and below 10 ^ (k + 1) has k + 1 of them, and 0 has one
+pub count : (k n : ℕ) → 10 ^ k ≤ max n 1 → max n 1 < 10 * 10 ^ k → length (decimal n) ≡ k + 1
+count zero n p q = rw (one n (omega arith))
+count (suc k) n p q =
+    let a : 10 * 10 ^ k ≤ max n 1 = rw pow-succ' at p in
+    let b : max n 1 < 10 * (10 * 10 ^ k) = rw pow-succ' at q in
+    let d : 10 ≤ n = omega arith in
+    rw (more n d, length-append, count k (n / 10) (omega arith) (omega arith)) (omega arith)
 
 -- a u32 has at most ten
 pub ten : (n : ℕ) → n < 2 ^ 32 → length (decimal n) ≤ 10
-ten n h = count_by 9 n (omega arith) (ltb n 10) refl
+ten n h = let e = is_std n (omega arith) in rw (← e) (length-decimal-le 10 n (omega arith) (omega arith) (omega arith))
 
 -- the number that digits say, after a number before them
 abbrev pub value_after : ℕ → List ℕ → ℕ

@@ -2,7 +2,6 @@
 pub mod Replying
 pub mod Planning
 pub mod Lining
-pub mod Copying
 pub mod Starting
 pub mod Untouched
 pub mod Ordered

@@ -2,21 +2,22 @@
 use Prim.Native.Nat.{ℕ}
 use mathlib.Core.Path.{◌≡◌, refl}
 use mathlib.Core.List.{List}
+use Rattle.std.specs.Prelude.{Result, Ok, Err}
 use Rattle.kinds.specs.declared.CFGR.{CFGR}
 use Rattle.configure.specs.Configure.{configured_of}
 use Rattle.configure.specs.declared.Configured.{Configured}
+use Rattle.configure.specs.declared.Unplanned.{Unplanned}
+use Rattle.kinds.specs.declared.refusals.Refusal.{Refusal}
 use Rattle.clocks.specs.Derive.{derived_of}
 use Rattle.clocks.specs.declared.Derived.{Derived}
 use Rattle.plan.specs.Plan.{plan_of}
 use Rattle.plan.specs.declared.Planned.{Planned}
 use Rattle.record.specs.declared.Fault.{Fault}
-use Rattle.record.specs.declared.Reading.{Reading}
-use Rattle.record.specs.declared.Reading.TheVariants.{Config, Malformed}
 use Rattle.record.proofs.Exactly.{malformed_14}
 use Rattle.numbers.specs.Plans.{Configures, configured_reply, Derives, derived_reply, Plans, planned_reply}
 use Rattle.woolturret.specs.Plans.{configure_reply, derive_reply, plan_reply}
 
-module _ {z : Reading} {f : Fault} (e : z ≡ Malformed f) where
+module _ {z : Result CFGR Fault} {f : Fault} (e : z ≡ Err f) where
   pub configure_malformed : (config : List ℕ) → Configures (configure_reply z config) 14 config 0
   configure_malformed config = rw e (record { answer = rw (malformed_14 f); config_holds = refl; passes_hold = refl })
 
@@ -26,12 +27,12 @@ module _ {z : Reading} {f : Fault} (e : z ≡ Malformed f) where
   pub plan_malformed : (config clocks : List ℕ) → Plans (plan_reply z config clocks) 14 config clocks 0
   plan_malformed config clocks = rw e (record { answer = rw (malformed_14 f); config_holds = refl; clocks_hold = refl; passes_hold = refl })
 
-module _ {z : Reading} {c : CFGR} (e : z ≡ Config c) where
-  pub configure_read : {a : Configured} {r k : ℕ} {l : List ℕ} (config : List ℕ) → a ≡ configured_of c → Configures (configured_reply a config) r l k → Configures (configure_reply z config) r l k
+module _ {z : Result CFGR Fault} {c : CFGR} (e : z ≡ Ok c) where
+  pub configure_read : {a : Result Configured Unplanned} {r k : ℕ} {l : List ℕ} (config : List ℕ) → a ≡ configured_of c → Configures (configured_reply a config) r l k → Configures (configure_reply z config) r l k
   configure_read config p w = rw e (rw p at w)
 
-  pub derive_read : {a : Derived} {r : ℕ} {l : List ℕ} (clocks : List ℕ) → a ≡ derived_of c → Derives (derived_reply a clocks) r l → Derives (derive_reply z clocks) r l
+  pub derive_read : {a : Result Derived Refusal} {r : ℕ} {l : List ℕ} (clocks : List ℕ) → a ≡ derived_of c → Derives (derived_reply a clocks) r l → Derives (derive_reply z clocks) r l
   derive_read clocks p w = rw e (rw p at w)
 
-  pub plan_read : {a : Planned} {r k : ℕ} {l m : List ℕ} (config clocks : List ℕ) → a ≡ plan_of c → Plans (planned_reply a config clocks) r l m k → Plans (plan_reply z config clocks) r l m k
+  pub plan_read : {a : Result Planned Unplanned} {r k : ℕ} {l m : List ℕ} (config clocks : List ℕ) → a ≡ plan_of c → Plans (planned_reply a config clocks) r l m k → Plans (plan_reply z config clocks) r l m k
   plan_read config clocks p w = rw e (rw p at w)

@@ -5,6 +5,7 @@ use mathlib.Core.Bool.{Bool, true, false, cond}
 use mathlib.Core.List.{List}
 use lib.Dec.{eqb}
 use lib.ListN.{length}
+use Rattle.std.specs.Prelude.{Result, Ok, Err}
 use Rattle.kinds.specs.declared.CFGR.{CFGR}
 use Rattle.clocks.specs.declared.Clocks.{Clocks}
 use Rattle.clocks.specs.declared.InternalRCCConfig.{InternalRCCConfig}
@@ -13,9 +14,8 @@ use Rattle.order.specs.Order.{ops_of}
 use Rattle.startup.specs.Start.{Ending, at_end, at_cut, at_wait, Walked, walk, outcome_of, started_of, limit_of, start_of}
 use Rattle.startup.specs.declared.Started.{Started}
 use Rattle.startup.proofs.View.{StartView, bad_limit, not_planned, ran, start_view}
-use Rattle.record.specs.declared.Reading.{Reading}
-use Rattle.record.specs.declared.Reading.TheVariants.{Config, Malformed}
 use Rattle.woolturret.specs.Starts.{StartReply, started_reply, refused_reply, placed_reply, read_reply, start_reply}
+use Rattle.record.specs.declared.Fault.{Fault}
 
 abbrev pub Untouched : List ℕ → List ℕ → StartReply → Type 0
 Untouched file clocks y = (y.report.refusal ≡ 0 → ⊥) → (y.report.refusal ≡ 12 → ⊥) → y ≡ refused_reply y.report.refusal file clocks
@@ -39,15 +39,15 @@ module _ (file : List ℕ) (lim : ℕ) (xs : List ℕ) (cut : ℕ) (clocks : Lis
   of_places c true a b = of_view c (start_of c file lim xs cut) (start_view c file lim xs cut) a b
   of_places c false a b = refl
 
-  of_reading : (z : Reading) → Untouched file clocks (read_reply z file lim xs cut clocks)
+  of_reading : (z : Result CFGR Fault) → Untouched file clocks (read_reply z file lim xs cut clocks)
   unfolding placed_reply
-  of_reading (Malformed fault) a b = refl
-  of_reading (Config c) a b = of_places c (eqb (length file) PLACES) a b
+  of_reading (Err fault) a b = refl
+  of_reading (Ok c) a b = of_places c (eqb (length file) PLACES) a b
 
-  of_limit : (z : Reading) (t : Bool) → Untouched file clocks (cond t (read_reply z file lim xs cut clocks) (refused_reply (limit_of lim) file clocks))
+  of_limit : (z : Result CFGR Fault) (t : Bool) → Untouched file clocks (cond t (read_reply z file lim xs cut clocks) (refused_reply (limit_of lim) file clocks))
   of_limit z true a b = of_reading z a b
   of_limit z false a b = refl
 
-  pub lent_untouched : (z : Reading) → Untouched file clocks (start_reply z file lim xs cut clocks)
+  pub lent_untouched : (z : Result CFGR Fault) → Untouched file clocks (start_reply z file lim xs cut clocks)
   unfolding start_reply
   lent_untouched z = of_limit z (eqb (limit_of lim) 0)

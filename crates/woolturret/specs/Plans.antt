@@ -1,22 +1,22 @@
 -- What the functions for pll_configure, calculate_clocks and plan answer, by what the record reads as.
 -- A malformed one: its number, and what is lent as it came, but for 0 passes.
-use Rattle.std.specs.Prelude.{ℕ, List, []}
+use Rattle.std.specs.Prelude.{ℕ, List, [], Result, Ok, Err}
 use Rattle.configure.specs.Configure.{configured_of}
 use Rattle.clocks.specs.Derive.{derived_of}
 use Rattle.plan.specs.Plan.{plan_of}
 use Rattle.record.specs.Reading.{number_of}
-use Rattle.record.specs.declared.Reading.{Reading}
-use Rattle.record.specs.declared.Reading.TheVariants.{Config, Malformed}
 use Rattle.numbers.specs.Plans.{PlanReply, configured_reply, derived_reply, planned_reply}
+use Rattle.kinds.specs.declared.CFGR.{CFGR}
+use Rattle.record.specs.declared.Fault.{Fault}
 
-abbrev pub configure_reply : Reading → List ℕ → PlanReply
-configure_reply (Malformed fault) config = record { number = number_of fault; config = config; clocks = []; passes = 0 }
-configure_reply (Config c) config = configured_reply (configured_of c) config
+abbrev pub configure_reply : Result CFGR Fault → List ℕ → PlanReply
+configure_reply (Err fault) config = record { number = number_of fault; config = config; clocks = []; passes = 0 }
+configure_reply (Ok c) config = configured_reply (configured_of c) config
 
-abbrev pub derive_reply : Reading → List ℕ → PlanReply
-derive_reply (Malformed fault) clocks = record { number = number_of fault; config = []; clocks = clocks; passes = 0 }
-derive_reply (Config c) clocks = derived_reply (derived_of c) clocks
+abbrev pub derive_reply : Result CFGR Fault → List ℕ → PlanReply
+derive_reply (Err fault) clocks = record { number = number_of fault; config = []; clocks = clocks; passes = 0 }
+derive_reply (Ok c) clocks = derived_reply (derived_of c) clocks
 
-abbrev pub plan_reply : Reading → List ℕ → List ℕ → PlanReply
-plan_reply (Malformed fault) config clocks = record { number = number_of fault; config = config; clocks = clocks; passes = 0 }
-plan_reply (Config c) config clocks = planned_reply (plan_of c) config clocks
+abbrev pub plan_reply : Result CFGR Fault → List ℕ → List ℕ → PlanReply
+plan_reply (Err fault) config clocks = record { number = number_of fault; config = config; clocks = clocks; passes = 0 }
+plan_reply (Ok c) config clocks = planned_reply (plan_of c) config clocks

@@ -1,20 +1,19 @@
 -- What an exported function answers, and what the lent numbers hold then.
-use Rattle.std.specs.Prelude.{ℕ, ◌≡◌, List}
+use Rattle.std.specs.Prelude.{ℕ, ◌≡◌, List, Option, Some, None, Result, Ok, Err}
 use Rattle.kinds.specs.Limits.{check_of}
 use Rattle.calls.specs.Calls.{call_setting}
 use Rattle.kinds.specs.declared.CFGR.{CFGR}
 use Rattle.record.specs.Reading.{number_of}
-use Rattle.record.specs.declared.Reading.{Reading}
-use Rattle.record.specs.declared.Reading.TheVariants.{Config, Malformed}
 use Rattle.pll.specs.Numbers.{number_of as found_number}
 use Rattle.pll.specs.Numbers.{outcome_number_of}
-use Rattle.pll.specs.declared.Outcome.{Outcome}
-use Rattle.pll.specs.declared.Outcome.TheVariants.{Refused as OutputRefused, At as OutputAt}
-use Rattle.pll.specs.declared.Found.{Found}
+use Rattle.pll.specs.declared.Pair.{Pair}
+use Rattle.pll.specs.declared.Miss.{Miss}
+use Rattle.kinds.specs.Setters.{setting_number, handed}
+use Rattle.kinds.specs.declared.refusals.Refusal.{Refusal}
 use Rattle.numbers.specs.Answers.{found_numbers}
 use Rattle.numbers.specs.Numbers.{config_numbers}
-use Rattle.calls.specs.declared.named.Named.{Named}
-use Rattle.calls.specs.declared.named.Named.TheVariants.{Unknown, Call}
+use Rattle.calls.specs.declared.Setter.{Setter}
+use Rattle.record.specs.declared.Fault.{Fault}
 
 -- the number answered, and the lent numbers as they are left
 pub record Reply : Type 0 where
@@ -26,28 +25,28 @@ pub record Replied (y : Reply) (r : ℕ) (out : List ℕ) : Type 0 where
   pub holds : out ≡ y.left
 
 -- a malformed record: 14
-abbrev pub check_reply : Reading → ℕ
-check_reply (Malformed fault) = number_of fault
-check_reply (Config c) = check_of c
+abbrev pub check_reply : Result CFGR Fault → ℕ
+check_reply (Err fault) = number_of fault
+check_reply (Ok c) = check_of c
 
 -- an unknown setter or code: 14, and the lent numbers as they came
-abbrev pub call_reply : CFGR → Named → List ℕ → Reply
-call_reply c Unknown out = record { number = 14; left = out }
-call_reply c (Call s) out = record { number = (call_setting c s).refusal; left = config_numbers (call_setting c s).cfgr }
+abbrev pub call_reply : CFGR → Option Setter → List ℕ → Reply
+call_reply c None out = record { number = 14; left = out }
+call_reply c (Some s) out = record { number = setting_number (call_setting c s); left = config_numbers (handed (call_setting c s)) }
 
-abbrev pub set_reply : Reading → Named → List ℕ → Reply
-set_reply (Malformed fault) call out = record { number = number_of fault; left = out }
-set_reply (Config c) call out = call_reply c call out
+abbrev pub set_reply : Result CFGR Fault → Option Setter → List ℕ → Reply
+set_reply (Err fault) call out = record { number = number_of fault; left = out }
+set_reply (Ok c) call out = call_reply c call out
 
 -- the search leaves its five numbers, whatever it answers
-abbrev pub search_reply : Found → Reply
+abbrev pub search_reply : Result Pair Miss → Reply
 search_reply found = record { number = found_number found; left = found_numbers found }
 
 -- an output: its hertz where it is given; refused, the lent number as it came
-abbrev pub hertz_of : Outcome → ℕ → ℕ
-hertz_of (OutputRefused number) before = before
-hertz_of (OutputAt hertz) before = hertz
+abbrev pub hertz_of : Result ℕ Refusal → ℕ → ℕ
+hertz_of (Err refusal) before = before
+hertz_of (Ok hertz) before = hertz
 
-pub record Told (o : Outcome) (before r after : ℕ) : Type 0 where
+pub record Told (o : Result ℕ Refusal) (before r after : ℕ) : Type 0 where
   pub answer : r ≡ outcome_number_of o
   pub holds : after ≡ hertz_of o before

@@ -1,5 +1,5 @@
 -- What woolturret_start answers, and what the lent file and clocks hold then.
-use Rattle.std.specs.Prelude.{ℕ, ◌≡◌, cond, List, eqb, length}
+use Rattle.std.specs.Prelude.{ℕ, ◌≡◌, cond, List, eqb, length, Result, Ok, Err}
 use Rattle.kinds.specs.declared.CFGR.{CFGR}
 use Rattle.order.specs.Places.{PLACES}
 use Rattle.startup.specs.Start.{limit_of, start_of, wait_named}
@@ -8,10 +8,9 @@ use Rattle.startup.specs.declared.Outcome.{Outcome}
 use Rattle.startup.specs.declared.Outcome.TheVariants.{Done, Cut, Refused, Unanswered}
 use Rattle.startup.specs.declared.Started.{Started}
 use Rattle.record.specs.Reading.{number_of}
-use Rattle.record.specs.declared.Reading.{Reading}
-use Rattle.record.specs.declared.Reading.TheVariants.{Config, Malformed}
 use Rattle.numbers.specs.Plans.{clock_numbers}
 use Rattle.woolturret.specs.declared.Report.{Report}
+use Rattle.record.specs.declared.Fault.{Fault}
 
 -- the four numbers answered, and the lent file and clocks as they are left
 pub record StartReply : Type 0 where
@@ -26,16 +25,16 @@ pub record Starts (y : StartReply) (r : Report) (file clocks : List ℕ) : Type 
 
 -- 1 if it ended at the cut
 abbrev pub cut_of : Outcome → ℕ
-cut_of (Done x y) = 0
-cut_of (Cut x y) = 1
-cut_of (Refused n) = 0
+cut_of (Done d) = 0
+cut_of (Cut d) = 1
+cut_of (Refused r) = 0
 cut_of (Unanswered k) = 0
 
 -- the clocks of the plan, also when cut; refused, 12 too, the lent ones as they came
 abbrev pub clocks_of : Outcome → List ℕ → List ℕ
-clocks_of (Done x y) clocks = clock_numbers x y
-clocks_of (Cut x y) clocks = clock_numbers x y
-clocks_of (Refused n) clocks = clocks
+clocks_of (Done d) clocks = clock_numbers d.clocks d.config
+clocks_of (Cut d) clocks = clock_numbers d.clocks d.config
+clocks_of (Refused r) clocks = clocks
 clocks_of (Unanswered k) clocks = clocks
 
 abbrev pub report_of : Outcome → ℕ → Report
@@ -57,10 +56,10 @@ unfoldable pub placed_reply : CFGR → List ℕ → ℕ → List ℕ → ℕ →
 placed_reply c file lim xs cut clocks = cond (eqb (length file) PLACES) (started_reply (start_of c file lim xs cut) clocks) (refused_reply 14 file clocks)
 
 -- 14: a malformed record
-abbrev pub read_reply : Reading → List ℕ → ℕ → List ℕ → ℕ → List ℕ → StartReply
-read_reply (Malformed fault) file lim xs cut clocks = refused_reply (number_of fault) file clocks
-read_reply (Config c) file lim xs cut clocks = placed_reply c file lim xs cut clocks
+abbrev pub read_reply : Result CFGR Fault → List ℕ → ℕ → List ℕ → ℕ → List ℕ → StartReply
+read_reply (Err fault) file lim xs cut clocks = refused_reply (number_of fault) file clocks
+read_reply (Ok c) file lim xs cut clocks = placed_reply c file lim xs cut clocks
 
 -- record, lent file, poll limit, answers, cut, lent clocks: 13 first, then 14, then what the start itself gives
-unfoldable pub start_reply : Reading → List ℕ → ℕ → List ℕ → ℕ → List ℕ → StartReply
+unfoldable pub start_reply : Result CFGR Fault → List ℕ → ℕ → List ℕ → ℕ → List ℕ → StartReply
 start_reply z file lim xs cut clocks = cond (eqb (limit_of lim) 0) (read_reply z file lim xs cut clocks) (refused_reply (limit_of lim) file clocks)

@@ -17,40 +17,46 @@ ghost use Rattle.woolturret.specs.Starts.{Starts, start_reply};
 ghost use Rattle.calls.specs.Named.{named_of};
 
 use answer::put_answer;
-use calls::Named;
+use calls::Setter;
 use clocks::calculate_clocks;
 use configure::pll_configure;
-use kinds::{CFGR, Divider, Factor, Hertz};
+use kinds::{CFGR, Divider, Factor, Hertz, Refusal};
 use numbers::{CLOCKS, CONFIG, SEARCH, answers, plans};
 use plan::plan;
-use pll::Outcome;
-use record::Reading;
-use startup::limit_refusal;
-use text::{LINE, Placed};
+use startup::check_limit;
+use text::LINE;
 
-// The check of 1 to 6 of the configuration that a record holds: 0 where nothing is refused, 14 for a malformed record.
+// The check of 1 to 6 of the configuration that a record holds: 0 where nothing is refused, 14 for a malformed record. Here and below
+// the number stands in its arm, beside what is written to what C lent.
 #[unsafe(no_mangle)]
 pub extern "C" fn woolturret_check(bytes: &[u8]) -> u32
     ensures { result ≡ check_reply (read_of bytes.now) }
 {
     match record::read_record(bytes) {
-        Reading::Malformed(_) => 14,
-        Reading::Config(cfgr) => cfgr.check() as u32,
+        Err(_) => u32::from(Refusal::Malformed),
+        Ok(cfgr) => match cfgr.check() {
+            Ok(()) => 0,
+            Err(refusal) => u32::from(refusal),
+        },
     }
 }
 
 // A call on a configuration: its number, and the configuration handed back in out; 14 and out as it was for an unknown call.
-fn reply(cfgr: CFGR, call: Named, out: &mut [u32; CONFIG]) -> u32
+fn reply(cfgr: CFGR, call: Option<Setter>, out: &mut [u32; CONFIG]) -> u32
     ensures { Replied (call_reply cfgr call out.old) result out.new }
 {
     match call {
-        Named::Unknown => 14,
-        Named::Call(setter) => {
-            let set = calls::call(cfgr, setter);
-            let handed = set.cfgr;
-            *out = numbers::config_numbers(handed);
-            set.refusal as u32
-        }
+        None => u32::from(Refusal::Malformed),
+        Some(setter) => match calls::call(cfgr, setter) {
+            Ok(set) => {
+                *out = numbers::config_numbers(set);
+                0
+            }
+            Err(refused) => {
+                *out = numbers::config_numbers(refused.cfgr);
+                u32::from(refused.refusal)
+            }
+        },
     }
 }
 
@@ -67,12 +73,12 @@ pub extern "C" fn woolturret_set(
     ensures { Replied (set_reply (read_of bytes.now) (named_of setter a b) out.old) result out.new }
 {
     match record::read_record(bytes) {
-        Reading::Malformed(_) => 14,
-        Reading::Config(cfgr) => reply(cfgr, calls::call_of(setter, a, b), out),
+        Err(_) => u32::from(Refusal::Malformed),
+        Ok(cfgr) => reply(cfgr, calls::call_of(setter, a, b), out),
     }
 }
 
-// The search for the settings of the main PLL: its number, and passes, M, N, P, Q in out.
+// The search for the settings of the main PLL, its windows by flags: its number, and passes, M, N, P, Q in out.
 #[unsafe(no_mangle)]
 pub extern "C" fn woolturret_search(
     input: u32,
@@ -101,8 +107,8 @@ pub extern "C" fn woolturret_output(input: u32, m: u32, n: u32, d: u32, out: &mu
     ensures { Told (output_of input m n d) out.old result out.new }
 {
     match pll::output(Hertz(input), Divider(m), Factor(n), Divider(d)) {
-        Outcome::Refused(k) => k as u32,
-        Outcome::At(hertz) => {
+        Err(refused) => u32::from(refused),
+        Ok(hertz) => {
             *out = hertz;
             0
         }
@@ -120,11 +126,11 @@ pub extern "C" fn woolturret_configure(
     ensures { Configures (configure_reply (read_of bytes.now) config.old) result config.new passes.new }
 {
     match record::read_record(bytes) {
-        Reading::Malformed(_) => {
+        Err(_) => {
             *passes = 0;
-            14
+            u32::from(Refusal::Malformed)
         }
-        Reading::Config(cfgr) => plans::configured(pll_configure(cfgr), config, passes),
+        Ok(cfgr) => plans::configured(pll_configure(cfgr), config, passes),
     }
 }
 
@@ -135,8 +141,8 @@ pub extern "C" fn woolturret_derive(bytes: &[u8], clocks: &mut [u32; CLOCKS]) ->
     ensures { Derives (derive_reply (read_of bytes.now) clocks.old) result clocks.new }
 {
     match record::read_record(bytes) {
-        Reading::Malformed(_) => 14,
-        Reading::Config(cfgr) => plans::derived(calculate_clocks(cfgr), clocks),
+        Err(_) => u32::from(Refusal::Malformed),
+        Ok(cfgr) => plans::derived(calculate_clocks(cfgr), clocks),
     }
 }
 
@@ -152,11 +158,11 @@ pub extern "C" fn woolturret_plan(
     ensures { Plans (plan_reply (read_of bytes.now) config.old clocks.old) result config.new clocks.new passes.new }
 {
     match record::read_record(bytes) {
-        Reading::Malformed(_) => {
+        Err(_) => {
             *passes = 0;
-            14
+            u32::from(Refusal::Malformed)
         }
-        Reading::Config(cfgr) => plans::planned(plan(cfgr), config, clocks, passes),
+        Ok(cfgr) => plans::planned(plan(cfgr), config, clocks, passes),
     }
 }
 
@@ -167,14 +173,14 @@ pub extern "C" fn woolturret_line(bytes: &[u8], out: &mut [u8; LINE]) -> u32
 {
     let line: &mut [u8] = out;
     match put_answer(bytes, line, 0) {
-        Placed::Next(next) => next as u32,
-        Placed::NoRoom => 0,
+        Some(next) => next as u32,
+        None => 0,
     }
 }
 
-// What a start came to: 0 or its refusal's number; 1 if it ended at the cut; the wait that 12 names, else 0; the polls made.
+// What a start came to, as C gets it: 0 or its refusal's number; 1 if it ended at the cut; the wait that 12 names, else 0; the polls made.
 #[repr(C)]
-#[derive(Clone, Copy)]
+#[derive(Clone, Copy, PartialEq, Eq)]
 pub struct Report {
     pub refusal: u32,
     pub cut: u32,
@@ -195,12 +201,11 @@ pub extern "C" fn woolturret_start(
 ) -> Report
     ensures { Starts (start_reply (read_of bytes.now) file.old limit answers.now cut clocks.old) result file.new clocks.new }
 {
-    let number = limit_refusal(limit) as u32;
-    if number != 0 {
-        return starts::refused(number);
+    if let Err(refusal) = check_limit(limit) {
+        return starts::refused(refusal);
     }
     match record::read_record(bytes) {
-        Reading::Malformed(_) => starts::refused(14),
-        Reading::Config(cfgr) => starts::placed(cfgr, file, answers, limit, cut, clocks),
+        Err(_) => starts::refused(Refusal::Malformed),
+        Ok(cfgr) => starts::placed(cfgr, file, answers, limit, cut, clocks),
     }
 }

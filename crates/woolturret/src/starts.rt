@@ -1,21 +1,22 @@
 // A start over lent numbers: the file taken and handed back, and what the start came to as numbers.
 ghost use Rattle.std.specs.Prelude.{◌≡◌, length};
+ghost use Rattle.kinds.specs.Refusals.{number_of};
 ghost use Rattle.order.specs.Places as places;
 ghost use Rattle.woolturret.specs.Starts as spec;
 
 use super::Report;
-use kinds::CFGR;
+use kinds::{CFGR, Refusal};
 use numbers::CLOCKS;
 use numbers::plans::clock_numbers;
 use order::PLACES;
 use startup::{Outcome, Started, freeze};
 
 // 13 or 14.
-pub(crate) fn refused(number: u32) -> Report
-    ensures { result ≡ spec.refused_report number }
+pub(crate) fn refused(refusal: Refusal) -> Report
+    ensures { result ≡ spec.refused_report (number_of refusal) }
 {
     Report {
-        refusal: number,
+        refusal: u32::from(refusal),
         cut: 0,
         wait: 0,
         polls: 0,
@@ -25,76 +26,35 @@ pub(crate) fn refused(number: u32) -> Report
 fn report(outcome: Outcome, polls: u32) -> Report
     ensures { result ≡ spec.report_of outcome polls }
 {
+    let done = Report {
+        refusal: 0,
+        cut: 0,
+        wait: 0,
+        polls,
+    };
     match outcome {
-        Outcome::Done {
-            clocks: _,
-            config: _,
-        } => Report {
-            refusal: 0,
-            cut: 0,
-            wait: 0,
-            polls: polls,
-        },
-        Outcome::Cut {
-            clocks: _,
-            config: _,
-        } => Report {
-            refusal: 0,
-            cut: 1,
-            wait: 0,
-            polls: polls,
-        },
-        Outcome::Refused(number) => Report {
-            refusal: number as u32,
-            cut: 0,
-            wait: 0,
-            polls: polls,
+        Outcome::Done(_) => done,
+        Outcome::Cut(_) => Report { cut: 1, ..done },
+        Outcome::Refused(refusal) => Report {
+            refusal: u32::from(refusal),
+            ..done
         },
         Outcome::Unanswered(wait) => Report {
-            refusal: 12,
-            cut: 0,
-            wait: wait as u32,
-            polls: polls,
+            refusal: u32::from(Refusal::Unanswered),
+            wait: u32::from(wait),
+            ..done
         },
     }
 }
 
 // Nothing is written where the start is refused.
-fn give_clocks(outcome: Outcome, clocks: &mut [u32; CLOCKS])
-    ensures { clocks.new ≡ spec.clocks_of outcome clocks.old }
+fn give_clocks(outcome: Outcome, lent: &mut [u32; CLOCKS])
+    ensures { lent.new ≡ spec.clocks_of outcome lent.old }
 {
     match outcome {
-        Outcome::Done {
-            clocks: x,
-            config: y,
-        } => *clocks = clock_numbers(x, y),
-        Outcome::Cut {
-            clocks: x,
-            config: y,
-        } => *clocks = clock_numbers(x, y),
-        Outcome::Refused(_) => {}
-        Outcome::Unanswered(_) => {}
+        Outcome::Done(derived) | Outcome::Cut(derived) => *lent = clock_numbers(derived),
+        Outcome::Refused(_) | Outcome::Unanswered(_) => {}
     }
-}
-
-fn copy(from: &[u32], to: &mut [u32])
-    requires { length to.old ≡ length from.now }
-    ensures { to.new ≡ from.now }
-{
-    let mut i = 0;
-    while i < to.len() {
-        to[i] = from[i];
-        i += 1;
-    }
-}
-
-fn file_of(lent: &[u32]) -> [u32; PLACES]
-    requires { length lent.now ≡ places.PLACES }
-    ensures { result ≡ lent.now }
-{
-    let mut file = [0u32; PLACES];
-    copy(lent, &mut file);
-    file
 }
 
 // The file is copied back in any case: a start that is refused, but for 12, has it as it came.
@@ -102,11 +62,9 @@ fn hand_back(started: Started, file: &mut [u32], clocks: &mut [u32; CLOCKS]) -> 
     requires { length file.old ≡ places.PLACES }
     ensures { spec.Starts (spec.started_reply started clocks.old) result file.new clocks.new }
 {
-    let left = started.file;
-    let outcome = started.outcome;
-    copy(&left, file);
-    give_clocks(outcome, clocks);
-    report(outcome, started.polls)
+    file.copy_from_slice(&started.file);
+    give_clocks(started.outcome, clocks);
+    report(started.outcome, started.polls)
 }
 
 // A start of a configuration: 14 for a file of another number of places.
@@ -120,13 +78,11 @@ pub(crate) fn placed(
 ) -> Report
     ensures { spec.Starts (spec.placed_reply cfgr file.old limit answers.now cut clocks.old) result file.new clocks.new }
 {
-    if file.len() == PLACES {
-        hand_back(
-            freeze(cfgr, file_of(file), limit, answers, cut),
-            file,
-            clocks,
-        )
-    } else {
-        refused(14)
+    match file.as_array::<PLACES>() {
+        Some(lent) => {
+            let started = freeze(cfgr, *lent, limit, answers, cut);
+            hand_back(started, file, clocks)
+        }
+        None => refused(Refusal::Malformed),
     }
 }

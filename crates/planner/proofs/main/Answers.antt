@@ -1,13 +1,10 @@
 -- `main` ends: each step leaves fewer records to read.
 use native.Mathlib.Omega.{arith}
 use Rattle.planner.proofs.Asking.{stepped_less}
-use Rattle.std.proofs.Common.{rules}
 use Rattle.planner.proofs.main.Goals as goal
 
 pub loop-left-smaller : goal.loop-left-smaller
-loop-left-smaller c = stepped_less c.step-piece.ensures c.loop-left-test.true
+loop-left-smaller c = stepped_less c.step-left.ensures c.loop-left-test.true
 
 pub loop-left-preserved : goal.loop-left-preserved
-loop-left-preserved c =
-    let h = stepped_less c.step-piece.ensures c.loop-left-test.true in
-    (search rules, search rules, omega (arith, h, c.loop-left.invariant.2))
+loop-left-preserved c = omega (arith, stepped_less c.step-left.ensures c.loop-left-test.true, c.loop-left.invariant)

@@ -4,8 +4,8 @@ use mathlib.Core.Path.{◌≡◌}
 use lib.ListN.{length}
 use Rattle.planner.proofs.take_in.Given as goal
 
-abbrev pub invariant-loop-done : goal.invariant-loop-done
-invariant-loop-done l = (length l.input ≡ length l.initial.input) × (l.done ≤ l.want)
+abbrev pub invariant-loop-got : goal.invariant-loop-got
+invariant-loop-got l = (length l.input ≡ length l.initial.input) × (l.got ≤ l.want)
 
-abbrev pub decreases-loop-done : goal.decreases-loop-done
-decreases-loop-done l = l.want - l.done
+abbrev pub decreases-loop-got : goal.decreases-loop-got
+decreases-loop-got l = l.want - l.got

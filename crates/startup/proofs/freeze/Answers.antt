@@ -1,20 +1,22 @@
--- `freeze` meets its contract: by whether its limit is refused.
-use mathlib.Core.Path.{sym, ◌∙◌}
-use borrow.Author.Tests.{eq-eqb, ne_eqb}
-use Rattle.startup.specs.Start.{start_of}
-use native.Mathlib.Omega.{arith}
-use Rattle.kinds.proofs.Check.{outside_zero}
+-- `freeze` meets its contract: by whether its limit is refused, then by what the plan answers.
+use Rattle.startup.proofs.Runs.{begun_ran, room}
+use Rattle.startup.proofs.Starting.{start_refused, start_ready, limit_refused, limit_within, limit_good}
 use Rattle.startup.proofs.freeze.Goals as goal
 
-pub planned-requires : goal.planned-requires
-planned-requires c = (outside_zero 1 65535 13 _ (omega arith) (sym c.limit_refusal-number.ensures ∙ c.if-number-eq0.true)).high
+pub returns-in-Err : goal.returns-in-Err
+returns-in-Err c = limit_refused _ _ _ _ _ c.check_limit.ensures c.in-Err.is c.refused.ensures
 
-pub returns-then-number-eq0 : goal.returns-then-number-eq0
-unfolding start_of
-returns-then-number-eq0 c = simp (eq-eqb _ _ (sym c.limit_refusal-number.ensures ∙ c.if-number-eq0.true)) c.planned.ensures
+pub begin-run-requires : goal.begin-run-requires
+begin-run-requires c = limit_within _ c.check_limit.ensures c.in_default.is
 
-pub returns-else-number-eq0 : goal.returns-else-number-eq0
-unfolding start_of
-returns-else-number-eq0 c =
-    let e = c.limit_refusal-number.ensures in
-    simp (ne_eqb _ _ (λ z. c.if-number-eq0.false (e ∙ z))) (rw (sym e) c.refused.ensures)
+pub all_parts-requires : goal.all_parts-requires
+all_parts-requires c = room c.in-Ok.planned.cfgr c.in-Ok.planned.derived.config c.begin-run.ensures.machine
+
+pub returns-in-Err-plan : goal.returns-in-Err-plan
+returns-in-Err-plan c =
+    limit_good _ _ _ _ _ c.check_limit.ensures c.in_default.is (start_refused _ _ _ c.plan.ensures c.in-Err-plan.is c.refused-in-Err-plan.ensures)
+
+pub returns-in-Ok : goal.returns-in-Ok
+returns-in-Ok c =
+    limit_good _ _ _ _ _ c.check_limit.ensures c.in_default.is
+    (start_ready c.plan.ensures c.in-Ok.is (begun_ran c.begin-run.ensures c.all_parts.ensures) c.ended.ensures)

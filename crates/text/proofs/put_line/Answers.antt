@@ -8,5 +8,5 @@ pub returns : goal.returns
 unfolding line_of
 returns c =
     let room = roomy _ _ c.has_room.ensures c.if-not-has_room.false in
-    placed room (omega (arith, c.put_text-p.ensures.ends, c.put_numbers-q.ensures.upper_bound, c.put_byte.ensures.ends))
-    (join c.put_text-p.ensures (join c.put_numbers-q.ensures.wrote c.put_byte.ensures))
+    placed room (omega (arith, c.put_text-p.ensures.ends, c.put_numbers-q.ensures.upper_bound, c.put_text.ensures.ends))
+    (join c.put_text-p.ensures (join c.put_numbers-q.ensures.wrote c.put_text.ensures))

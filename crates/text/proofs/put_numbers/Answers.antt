@@ -1,29 +1,27 @@
--- `put_numbers` meets its contract: after i turns the first i numbers stand, each in at most eleven bytes.
+-- `put_numbers` meets its contract: after some turns the numbers so far stand, each in at most eleven bytes.
 use native.Mathlib.Omega.{arith}
-use mathlib.Core.Path.{ap, sym}
+use mathlib.Core.Path.{sym}
 use lib.ListN.{get_or}
-use lib.Seq.{take_all}
 use Rattle.text.specs.Line.{spaced}
-use Rattle.text.proofs.Writing.{join, none, renamed, same}
-use Rattle.text.proofs.Spacing.{eleven, spaced_more}
+use Rattle.text.proofs.Writing.{join, none, renamed}
+use Rattle.text.proofs.Digits.{ten}
+use Rattle.text.proofs.Spacing.{spaced_more}
 use Rattle.text.proofs.put_numbers.Goals as goal
 
-pub loop-i-init : goal.loop-i-init
+pub loop-n-init : goal.loop-n-init
 unfolding spaced
-loop-i-init c = (none _ _, omega arith, omega arith)
+loop-n-init c = record { wrote = none _ _; near = omega arith }
 
-pub put_spaced-p-requires : goal.put_spaced-p-requires
-put_spaced-p-requires c = omega (arith, same c.loop-i.invariant.0)
+pub put_decimal-next-requires : goal.put_decimal-next-requires
+put_decimal-next-requires c =
+    omega (arith, c.loop-n.invariant.near, c.put_text-p.ensures.ends, ten (get_or c.args.ns.now c.loop-n.n-index 0) (omega (arith, c.type_inv.ns c.loop-n.n-index)))
 
-pub loop-i-preserved : goal.loop-i-preserved
-loop-i-preserved c =
+pub loop-n-preserved : goal.loop-n-preserved
+loop-n-preserved c =
     let ns = c.args.ns.now in
-    let w = c.put_spaced-p.ensures in (
-      renamed (sym (spaced_more ns c.loop-i.i (omega arith))) (join c.loop-i.invariant.0 w),
-      omega (arith, w.ends, eleven (get_or ns c.loop-i.i 0) (omega (arith, c.shared_slice_known-in-loop-i-1.given c.loop-i.i))),
-      omega arith,
-    )
-
-pub returns : goal.returns
-returns c =
-    record { wrote = renamed (ap spaced (take_all c.loop-i.i c.args.ns.now (omega arith))) c.loop-i.invariant.0; upper_bound = omega arith }
+    let i = c.loop-n.n-index in
+    let w = join c.put_text-p.ensures c.put_decimal-next.ensures in
+    record {
+      wrote = renamed (sym (spaced_more ns i (omega arith))) (join c.loop-n.invariant.wrote w);
+      near = omega (arith, c.loop-n.invariant.near, c.put_text-p.ensures.ends, c.put_decimal-next.ensures.ends, ten (get_or ns i 0) (omega (arith, c.type_inv.ns i)));
+    }

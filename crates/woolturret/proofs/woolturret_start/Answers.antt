@@ -3,11 +3,11 @@ use mathlib.Core.Path.{sym, ◌∙◌}
 use Rattle.woolturret.proofs.Starting.{start_13, start_malformed, start_read}
 use Rattle.woolturret.proofs.woolturret_start.Goals as goal
 
-pub returns-then-number-ne0 : goal.returns-then-number-ne0
-returns-then-number-ne0 c = start_13 _ _ _ _ _ _ c.limit_refusal-number.ensures c.if-number-ne0.true c.refused.ensures
+pub returns-in-Err : goal.returns-in-Err
+returns-in-Err c = start_13 _ _ _ _ _ _ c.check_limit.ensures c.in-Err.is c.refused.ensures
 
-pub returns-in-Malformed : goal.returns-in-Malformed
-returns-in-Malformed c = start_malformed _ _ _ _ _ _ c.limit_refusal-number.ensures c.if-number-ne0.false (sym c.read_record.ensures ∙ c.in-Malformed.is) c.refused-in-Malformed.ensures
+pub returns-in-Err-read_record : goal.returns-in-Err-read_record
+returns-in-Err-read_record c = start_malformed _ _ _ _ _ _ c.check_limit.ensures c.in_default.is (sym c.read_record.ensures ∙ c.in-Err-read_record.is) c.refused-in-Err-read_record.ensures
 
-pub returns-in-Config : goal.returns-in-Config
-returns-in-Config c = start_read _ _ _ _ _ _ c.limit_refusal-number.ensures c.if-number-ne0.false (sym c.read_record.ensures ∙ c.in-Config.is) c.placed.ensures
+pub returns-in-Ok : goal.returns-in-Ok
+returns-in-Ok c = start_read _ _ _ _ _ _ c.check_limit.ensures c.in_default.is (sym c.read_record.ensures ∙ c.in-Ok.is) c.placed.ensures

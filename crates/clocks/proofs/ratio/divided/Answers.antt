@@ -1,23 +1,17 @@
--- `ratio::divided` meets its contract. `proofs/Exactly.antt` says that the quotient is exact.
-use Rattle.std.proofs.Common.{ℕ, ◌/◌, sym, ap, ◌∙◌, arith}
-use Rattle.clocks.proofs.Exactly.{part_above, part_under, part_is, part_small, whole_of_power}
+-- `ratio::divided` meets its contract. Each thing that the borrow checker leaves is a fact of the quotient, `Parts` of `proofs/Exactly.antt`.
+use Rattle.std.proofs.Common.{◌∙◌, arith}
+use Rattle.clocks.proofs.Exactly.{parts}
 use Rattle.clocks.proofs.ratio.divided.Goals as goal
 
 pub truncating_f32_to_u64-requires : goal.truncating_f32_to_u64-requires
 truncating_f32_to_u64-requires c =
-    let p = c.requires.3 in record {
-      lower_bound = part_above c.args.clock.0 p.exponent c.nearest_u32_to_f32.result c.args.by c.requires.0 c.requires.1 c.requires.2 p.small c.nearest_u32_to_f32.ensures p.is;
-      upper_bound = part_under c.args.clock.0 p.exponent c.nearest_u32_to_f32.result c.args.by c.requires.0 c.requires.1 c.requires.2 p.small c.nearest_u32_to_f32.ensures p.is;
-    }
+    let known = parts c.args.clock.divides c.requires c.nearest_u32_to_f32.ensures in
+    record { lower_bound = known.above; upper_bound = known.under }
 
 pub overflow_cast-result : goal.overflow_cast-result
 overflow_cast-result c =
-    let p = c.requires.3 in
-    omega (arith, part_small c.args.clock.0 p.exponent c.nearest_u32_to_f32.result c.args.by c.requires.0 c.requires.1 c.requires.2 p.small c.nearest_u32_to_f32.ensures p.is, c.truncating_f32_to_u64.ensures)
+    let known = parts c.args.clock.divides c.requires c.nearest_u32_to_f32.ensures in
+    omega (arith, known.small, c.truncating_f32_to_u64.ensures)
 
 pub returns : goal.returns
-returns c =
-    let p = c.requires.3 in
-    c.truncating_f32_to_u64.ensures
-    ∙ part_is c.args.clock.0 p.exponent c.nearest_u32_to_f32.result c.args.by c.requires.0 c.requires.1 c.requires.2 p.small c.nearest_u32_to_f32.ensures p.is
-    ∙ ap (λ (d : ℕ). c.args.clock.0 / d) (sym (whole_of_power p.exponent c.args.by p.small p.is))
+returns c = c.truncating_f32_to_u64.ensures ∙ (parts c.args.clock.divides c.requires c.nearest_u32_to_f32.ensures).whole

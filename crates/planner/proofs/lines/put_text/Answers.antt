@@ -1,20 +1,41 @@
--- `put_text` meets its contract: the lines of whole records, and that of a tail which is no record.
+-- `put_text` meets its contract: after some turns the lines of the records so far stand; a tail which is no record has its own.
 use native.Mathlib.Omega.{arith}
-use Prim.Native.Nat.{◌*◌, ◌-◌, ◌/◌}
+use Prim.Native.Nat.{◌/◌}
+use mathlib.Core.Path.{◌≡◌}
 use lib.ListN.{length}
 use Rattle.record.specs.Places.{RECORD}
-use Rattle.text.proofs.Writing.{join, renamed}
-use Rattle.planner.proofs.Pieces.{without_tail, with_tail, begins}
+use Rattle.text.proofs.Writing.{join, renamed, same}
+use Rattle.planner.proofs.Pieces.{begun, record_at, more, without_tail, with_tail, begins}
 use Rattle.planner.proofs.lines.put_text.Goals as goal
 
-pub returns-then-from-input : goal.returns-then-from-input
-returns-then-from-input c =
+pub loop-record-init : goal.loop-record-init
+loop-record-init c = begun _ _
+
+pub put_record-next-requires : goal.put_record-next-requires
+put_record-next-requires c =
+    omega (arith, c.as_chunks.ensures.front_len, same c.loop-record.invariant.wrote, c.loop-record.invariant.near, c.requires)
+
+pub loop-record-preserved : goal.loop-record-preserved
+loop-record-preserved c =
     let b = c.args.input.now in
-    begins (renamed (without_tail b (omega arith)) c.put_lines-at.ensures.wrote) (omega (arith, c.put_lines-at.ensures.near))
+    let i = c.loop-record.record-index in
+    let at = record_at (length b / RECORD) i b _ (omega (arith, c.as_chunks.ensures.front_len)) in
+    more b i (rw c.as_chunks.ensures.front at) c.loop-record.invariant c.put_record-next.ensures
+
+pub returns-then-is_empty : goal.returns-then-is_empty
+returns-then-is_empty c =
+    let b = c.args.input.now in
+    let e : c.loop-record.record-index ≡ length b / RECORD = omega (arith, c.as_chunks.ensures.front_len) in
+    let w = rw e at c.loop-record.invariant in
+    begins (renamed (without_tail b _ c.as_chunks.ensures.back_len c.is_empty.ensures c.if-is_empty.true) w.wrote)
+    (omega (arith, w.near, c.requires))
 
 pub returns : goal.returns
 returns c =
     let b = c.args.input.now in
+    let e : c.loop-record.record-index ≡ length b / RECORD = omega (arith, c.as_chunks.ensures.front_len) in
+    let w = rw e at c.loop-record.invariant in
+    let line = c.put_record.ensures in
     begins
-    (renamed (with_tail b (RECORD * (length b / RECORD)) (length b - RECORD * (length b / RECORD)) (omega arith) (λ z. c.if-from-input.false (omega arith))) (join c.put_lines-at.ensures.wrote c.put_record.ensures.wrote))
-    (omega (arith, c.put_lines-at.ensures.near, c.put_record.ensures.near))
+    (renamed (with_tail b _ c.as_chunks.ensures.back_len c.is_empty.ensures c.if-is_empty.false) (join w.wrote line.wrote))
+    (omega (arith, w.near, line.near, c.requires))

@@ -1,7 +1,0 @@
--- `set` meets its contract: the file that it stores has the one place changed.
-use mathlib.Core.Path.{refl}
-use Rattle.startup.proofs.Runs.{puts}
-use Rattle.startup.proofs.machine.set.Goals as goal
-
-pub returns : goal.returns
-returns c = puts (record { is = refl }) c.store.ensures
