@@ -17,6 +17,7 @@ use Rattle.text.specs.Ascii.{codes}
 use Rattle.text.specs.Line.{QUANTITIES, ok_line, no_line}
 use Rattle.answer.specs.declared.Served.{Served}
 use Rattle.answer.specs.declared.Refused.{Refused}
+use Rattle.answer.specs.declared.Numbered.{Numbered}
 
 -- what bytes are answered with
 abbrev pub Answer : Type 0
@@ -69,6 +70,19 @@ answer_of bytes = read_answer (read_of bytes)
 -- the line: `ok` and the quantities, or `no` and the number
 unfoldable pub line_of_answer : Answer → List ℕ
 line_of_answer a = cond (eqb (number_in a) 0) (ok_line (quantities_in a)) (no_line (number_in a))
+
+-- an answer with its refusal by its number
+abbrev pub numbered_of : Refused → Numbered
+numbered_of r = record { number = number_of_refusal r.refusal; offset = r.offset; passes = r.passes }
+
+abbrev pub told : Answer → Result Served Numbered
+told (Ok s) = Ok s
+told (Err r) = Err (numbered_of r)
+
+-- the line of one whose number may be any
+unfoldable pub line_told : Result Served Numbered → List ℕ
+line_told (Ok s) = ok_line s.quantities
+line_told (Err r) = no_line r.number
 
 unfoldable pub planned_line : Result Planned Unplanned → List ℕ
 planned_line y = line_of_answer (planned_answer y)

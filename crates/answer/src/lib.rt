@@ -54,6 +54,26 @@ impl From<Unplanned> for Refused {
     }
 }
 
+// A refusal as its line tells it: by its number, which may be any.
+#[derive(Clone, Copy, PartialEq, Eq)]
+pub struct Numbered {
+    pub number: u32,
+    pub offset: Option<u32>,
+    pub passes: u32,
+}
+
+impl From<Refused> for Numbered {
+    ghost from_gives = { λ refused numbered. numbered ≡ spec.numbered_of refused };
+
+    fn from(refused: Refused) -> Numbered {
+        Numbered {
+            number: u32::from(refused.refusal),
+            offset: refused.offset,
+            passes: refused.passes,
+        }
+    }
+}
+
 #[tactic(auto, using(crate::proofs::Lines::bit), unfolding(crate::specs::Answer::quantities_of))]
 fn quantities_of(pll: Pll, derived: Derived) -> [u32; QUANTITIES]
     ensures { result ≡ spec.quantities_of pll derived.clocks derived.config }
@@ -93,24 +113,30 @@ pub fn answer_of(bytes: &[u8]) -> Result<Served, Refused>
     })
 }
 
-// The line of an answer, put where as many places are left as the longest has.
-#[tactic(auto, using(crate::proofs::Lines::refused), unfolding(crate::specs::Answer::line_of_answer))]
-pub fn put_line_of(answer: Result<Served, Refused>, out: &mut [u8], at: usize) -> Option<usize>
-    ensures { Placing out.old at (spec.line_of_answer answer) line.LINE out.new result }
+// The line of an answer, its refusal by any number, put where as many places are left as the longest has.
+#[tactic(auto, using(crate::proofs::Lines::refused), unfolding(crate::specs::Answer::line_told))]
+pub fn put_line_of(answer: Result<Served, Numbered>, out: &mut [u8], at: usize) -> Option<usize>
+    ensures { Placing out.old at (spec.line_told answer) line.LINE out.new result }
 {
     if out.len().checked_sub(LINE)? < at {
         return None;
     }
     match answer {
         Ok(served) => ok_line(out, at, &served.quantities),
-        Err(refused) => no_line(out, at, refused.refusal.into()),
+        Err(refused) => no_line(out, at, refused.number),
     }
 }
 
+// An answer with its refusal by its number.
+fn told(answer: Result<Served, Refused>) -> Result<Served, Numbered>
+    ensures { result ≡ spec.told answer }
+{
+    Ok(answer?)
+}
+
 // The line of any bytes.
-#[tactic(auto, unfolding(crate::specs::Answer::answer_line))]
 pub fn put_answer(bytes: &[u8], out: &mut [u8], at: usize) -> Option<usize>
     ensures { Placing out.old at (spec.answer_line bytes.now) line.LINE out.new result }
 {
-    put_line_of(answer_of(bytes), out, at)
+    put_line_of(told(answer_of(bytes)), out, at)
 }

@@ -1,6 +1,6 @@
 -- What each step to the derived clocks asks of those before it: HCLK, PCLKs and SYSCLK of a checked configuration stay in their ranges.
 use Rattle.std.specs.Prelude.{Option, None, Some}
-use Rattle.std.proofs.Common.{◌≡◌, ℕ, ◌+◌, ◌*◌, ◌/◌, ◌%◌, ◌<◌, ◌≤◌, Bool, true, false, cond, leb, ap, le_trans, mul-le-mul, le-div_iff_mul-le, div-le_self, arith}
+use Rattle.std.proofs.Common.{◌≡◌, refl, ℕ, ◌+◌, ◌*◌, ◌/◌, ◌%◌, ◌<◌, ◌≤◌, Bool, true, false, cond, leb, ap, le_trans, mul-le-mul, le-div_iff_mul-le, div-le_self, arith}
 use Rattle.kinds.specs.Config.{input_of}
 use Rattle.kinds.specs.Limits.{check_of}
 use Rattle.kinds.specs.Table.{Between, AskedWithin, Checked}
@@ -13,7 +13,7 @@ use Rattle.pll.proofs.Settings.{input_within, p_range}
 use Rattle.clocks.specs.Rows.{Row, ppre_row}
 use Rattle.pll.specs.Outputs.{base_of, p_output_of}
 use Rattle.clocks.specs.Derive.{sysclk_of, wanted_of, ahb_for, cap_of, cap1_of, cap2_of}
-use Rattle.clocks.specs.Inner.{ppre_held, Sysclk, Hclk}
+use Rattle.clocks.specs.Inner.{ppre_held, Sysclk, Hclk, sysclk_by}
 use Rattle.clocks.specs.declared.Prescaler.{Prescaler}
 use Rattle.clocks.specs.declared.Ahb.{Ahb}
 use Rattle.clocks.proofs.Table.{Power, power_low, power_high, hpre_power, ppre_power}
@@ -97,6 +97,11 @@ base_16 f = omega arith
 base_low : (f : ℕ) → InputOk f → 1024 ≤ base_of f
 unfolding base_of
 base_low f i = omega (arith, i.low)
+
+-- the SYSCLK of a configuration is that of its input and main PLL
+sysclk_by_lem : (c : CFGR) → sysclk_by (input_of c.sources.hse) c.pll ≡ sysclk_of c
+unfolding sysclk_by sysclk_of p_output_of
+sysclk_by_lem c = refl
 
 -- a SYSCLK up to 216 MHz is one that can be divided
 pub sysclk_facts : (c : CFGR) → Checked c → sysclk_of c ≤ 216000000 → Sysclk (sysclk_of c)

@@ -56,6 +56,13 @@ near_below x u h =
 size_gt : (n j : ℕ) → 2 ^ j ≤ n → j < size n
 size_gt n j h = lt_of_not-le (λ (g : size n ≤ j). not-le_of_lt (lt_of_lt_of_le (size-lt n) (pow_mono g)) h)
 
+past : (z k : ℕ) → z ≤ 24 + k → 23 + k < z → z - 24 ≡ k
+past z k a b = omega arith
+
+-- x from 2 ^ (23 + k) up and below 2 ^ (24 + k) has k digits past 24
+pub past_is : (x k : ℕ) → 2 ^ (23 + k) ≤ x → x < 2 ^ (24 + k) → size x - 24 ≡ k
+past_is x k lo hi = past (size x) k (size-le x (24 + k) hi) (size_gt x (23 + k) lo)
+
 none_past : (z : ℕ) → z ≤ 24 → z - 24 ≡ 0
 none_past z a = omega arith
 

@@ -1,11 +1,15 @@
 -- What the private functions ask of each other and hand on. No promise names these.
-use Rattle.std.specs.Prelude.{◌≡◌, ℕ, ◌%◌, ◌^◌, ◌≤◌, pos, Float, Option}
+use Rattle.std.specs.Prelude.{◌≡◌, ℕ, ◌%◌, ◌^◌, ◌≤◌, cond, pos, Float, Option}
 use Rattle.std.specs.Float.{binary32}
 use Rattle.std.specs.Float.Ieee.{of_int, to_unsigned}
+use Rattle.kinds.specs.Codes.{p_divider_of}
 use Rattle.kinds.specs.Table.{AskedWithin}
+use Rattle.kinds.specs.declared.Pll.{Pll}
 use Rattle.kinds.specs.declared.Requests.{Requests}
 use Rattle.kinds.specs.declared.Hertz.{Hertz}
 use Rattle.kinds.specs.declared.Divider.{Divider}
+use Rattle.pll.specs.Fixed.{vco_of, out_of}
+use Rattle.pll.specs.Outputs.{base_of}
 use Rattle.clocks.specs.Rows.{Row}
 use Rattle.clocks.specs.Derive.{cap1_of, cap2_of, ahb_for, apb_for}
 use Rattle.clocks.specs.declared.Prescaler.{Prescaler}
@@ -41,6 +45,10 @@ pub record Hclk (most h : ℕ) (q : Option Hertz) : Type 0 where
   pub low : 1 ≤ h
   pub high : h ≤ 216000000
   pub asked : AskedWithin 12500000 216000000 q
+
+-- SYSCLK by the input and the group of the main PLL
+unfoldable pub sysclk_by : ℕ → Pll → ℕ
+sysclk_by f l = cond l.use_pll (out_of (vco_of f l.n.0 l.m.0) (p_divider_of l.p)) (base_of f)
 
 -- what a SYSCLK grants
 unfoldable pub granted_of : ℕ → Requests → Granted

@@ -27,6 +27,11 @@ pub wanted_between : (c : CFGR) → Checked c → Between 1 216000000 (wanted_in
 unfolding wanted_in base_in
 wanted_between c k = wanted_range c.requests.sysclk _ k.requests.sysclk (base_range c k)
 
+pub wanted_in_lem : (c : CFGR) → Checked c → {f b w : ℕ} → w ≡ wanted_of c.requests.sysclk b → b ≡ base_of f → f ≡ input_of c.sources.hse → (1 ≤ w) × (w ≤ 216000000)
+wanted_in_lem c k ew eb ef =
+    let r = wanted_range c.requests.sysclk _ k.requests.sysclk (base_range c k) in
+    rw (ew, eb, ef) (r.low, r.high)
+
 -- so the ends of a window around it fit
 pub wanted_fits : (c : CFGR) → check_of c ≡ 0 → (1 ≤ wanted_in c) × (wanted_in c ≤ 216000000)
 wanted_fits c e = let r = wanted_between c (check_told c e) in (r.low, r.high)

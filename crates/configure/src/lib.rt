@@ -31,6 +31,9 @@ pub struct Unplanned {
 pub fn pll_configure(cfgr: CFGR) -> Result<Configured, Unplanned>
     ensures { result ≡ configured_of cfgr }
 {
-    let checked = Checked::try_from(cfgr).map_err(|refusal| Unplanned { refusal, passes: 0 })?;
-    settle(checked)
+    // By match: what `?` and `map_err` hand on of an answer that holds a configuration is copied, on a refusal too.
+    match Checked::try_from(cfgr) {
+        Ok(checked) => settle(checked),
+        Err(refusal) => Err(Unplanned { refusal, passes: 0 }),
+    }
 }

@@ -10,6 +10,7 @@ use Rattle.kinds.specs.declared.refusals.Refusal.{Refusal}
 use Rattle.kinds.specs.Refusals.{number_of}
 use Rattle.kinds.specs.Codes.{flag_of, asked_hertz}
 use Rattle.numbers.specs.Numbers.{config_numbers}
+use Rattle.numbers.specs.declared.plans.Refused.{Refused}
 
 -- how many numbers the clocks are, with their field codes
 abbrev pub CLOCKS : ℕ
@@ -36,9 +37,22 @@ pub record Plans (y : PlanReply) (r : ℕ) (config clocks : List ℕ) (passes : 
   pub clocks_hold : clocks ≡ y.clocks
   pub passes_hold : passes ≡ y.passes
 
--- refused, the lent numbers are as they came; the passes are those of the search wherever one ran
-abbrev pub planned_reply : Result Planned Unplanned → List ℕ → List ℕ → PlanReply
-planned_reply (Err u) config clocks = record { number = number_of u.refusal; config = config; clocks = clocks; passes = u.passes }
+-- why there is no plan or no configuration, as it is told: the refusal's number, and the passes
+abbrev pub refused_of : Unplanned → Refused
+refused_of u = record { number = number_of u.refusal; passes = u.passes }
+
+-- an answer with its refusal as it is told
+abbrev pub told : {T : Type 0} → Result T Unplanned → Result T Refused
+told (Ok x) = Ok x
+told (Err u) = Err (refused_of u)
+
+abbrev pub numbered : {T : Type 0} → Result T Refusal → Result T ℕ
+numbered (Ok x) = Ok x
+numbered (Err r) = Err (number_of r)
+
+-- refused, with any number, the lent numbers are as they came; the passes are those of the search wherever one ran
+abbrev pub planned_reply : Result Planned Refused → List ℕ → List ℕ → PlanReply
+planned_reply (Err u) config clocks = record { number = u.number; config = config; clocks = clocks; passes = u.passes }
 planned_reply (Ok p) config clocks = record { number = 0; config = config_numbers p.cfgr; clocks = clock_numbers p.derived.clocks p.derived.config; passes = p.passes }
 
 -- pll_configure has no clocks, calculate_clocks neither a configuration nor passes
@@ -47,14 +61,14 @@ pub record Configures (y : PlanReply) (r : ℕ) (config : List ℕ) (passes : �
   pub config_holds : config ≡ y.config
   pub passes_hold : passes ≡ y.passes
 
-abbrev pub configured_reply : Result Configured Unplanned → List ℕ → PlanReply
-configured_reply (Err u) config = record { number = number_of u.refusal; config = config; clocks = []; passes = u.passes }
+abbrev pub configured_reply : Result Configured Refused → List ℕ → PlanReply
+configured_reply (Err u) config = record { number = u.number; config = config; clocks = []; passes = u.passes }
 configured_reply (Ok r) config = record { number = 0; config = config_numbers r.cfgr; clocks = []; passes = r.passes }
 
 pub record Derives (y : PlanReply) (r : ℕ) (clocks : List ℕ) : Type 0 where
   pub answer : r ≡ y.number
   pub clocks_hold : clocks ≡ y.clocks
 
-abbrev pub derived_reply : Result Derived Refusal → List ℕ → PlanReply
-derived_reply (Err r) clocks = record { number = number_of r; config = []; clocks = clocks; passes = 0 }
+abbrev pub derived_reply : Result Derived ℕ → List ℕ → PlanReply
+derived_reply (Err n) clocks = record { number = n; config = []; clocks = clocks; passes = 0 }
 derived_reply (Ok d) clocks = record { number = 0; config = []; clocks = clock_numbers d.clocks d.config; passes = 0 }

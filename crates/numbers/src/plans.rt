@@ -1,13 +1,29 @@
 // Answers of pll_configure, calculate_clocks and plan as numbers.
 ghost use Rattle.std.specs.Prelude.{◌≡◌};
-ghost use Rattle.kinds.specs.Refusals.{number_of};
 ghost use Rattle.numbers.specs.Plans as spec;
 
 use super::{CLOCKS, CONFIG, asked_hertz, config_numbers};
 use clocks::Derived;
 use configure::{Configured, Unplanned};
-use kinds::Refusal;
 use plan::Planned;
+
+// A refusal as it is told: its number, which may be any, and the passes of the search.
+#[derive(Clone, Copy, PartialEq, Eq)]
+pub struct Refused {
+    pub number: u32,
+    pub passes: u32,
+}
+
+impl From<Unplanned> for Refused {
+    ghost from_gives = { λ unplanned refused. refused ≡ spec.refused_of unplanned };
+
+    fn from(unplanned: Unplanned) -> Refused {
+        Refused {
+            number: u32::from(unplanned.refusal),
+            passes: unplanned.passes,
+        }
+    }
+}
 
 // SYSCLK, HCLK, PCLK1, PCLK2, both timers; HPRE, PPRE1, PPRE2, wait states, scale, over-drive; 48 MHz valid, HSE, LSE, LSI.
 #[tactic(auto, unfolding(crate::specs::Plans::clock_numbers))]
@@ -36,23 +52,23 @@ pub fn clock_numbers(derived: Derived) -> [u32; CLOCKS]
 }
 
 // The number of a refusal, which changes nothing lent but the passes.
-fn refused(unplanned: Unplanned, passes: &mut u32) -> u32
-    ensures number { result ≡ number_of unplanned.refusal }
-    ensures passes { passes.new ≡ unplanned.passes }
+fn refuse(refused: Refused, passes: &mut u32) -> u32
+    ensures number { result ≡ refused.number }
+    ensures passes { passes.new ≡ refused.passes }
 {
-    *passes = unplanned.passes;
-    u32::from(unplanned.refusal)
+    *passes = refused.passes;
+    refused.number
 }
 
 pub fn configured(
-    answer: Result<Configured, Unplanned>,
+    answer: Result<Configured, Refused>,
     config: &mut [u32; CONFIG],
     passes: &mut u32,
 ) -> u32
     ensures { spec.Configures (spec.configured_reply answer config.old) result config.new passes.new }
 {
     match answer {
-        Err(unconfigured) => refused(unconfigured, passes),
+        Err(unconfigured) => refuse(unconfigured, passes),
         Ok(configured) => {
             *passes = configured.passes;
             *config = config_numbers(configured.cfgr);
@@ -61,11 +77,11 @@ pub fn configured(
     }
 }
 
-pub fn derived(answer: Result<Derived, Refusal>, clocks: &mut [u32; CLOCKS]) -> u32
+pub fn derived(answer: Result<Derived, u32>, clocks: &mut [u32; CLOCKS]) -> u32
     ensures { spec.Derives (spec.derived_reply answer clocks.old) result clocks.new }
 {
     match answer {
-        Err(refusal) => u32::from(refusal),
+        Err(number) => number,
         Ok(derived) => {
             *clocks = clock_numbers(derived);
             0
@@ -74,7 +90,7 @@ pub fn derived(answer: Result<Derived, Refusal>, clocks: &mut [u32; CLOCKS]) -> 
 }
 
 pub fn planned(
-    answer: Result<Planned, Unplanned>,
+    answer: Result<Planned, Refused>,
     config: &mut [u32; CONFIG],
     clocks: &mut [u32; CLOCKS],
     passes: &mut u32,
@@ -82,7 +98,7 @@ pub fn planned(
     ensures { spec.Plans (spec.planned_reply answer config.old clocks.old) result config.new clocks.new passes.new }
 {
     match answer {
-        Err(unplanned) => refused(unplanned, passes),
+        Err(unplanned) => refuse(unplanned, passes),
         Ok(planned) => {
             *passes = planned.passes;
             *config = config_numbers(planned.cfgr);

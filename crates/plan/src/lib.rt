@@ -24,10 +24,14 @@ pub struct Planned {
 pub fn plan(cfgr: CFGR) -> Result<Planned, Unplanned>
     ensures { result ≡ plan_of cfgr }
 {
+    // By match: what `?` hands on of an answer that holds a configuration is copied, on a refusal too.
     let Configured {
         cfgr: planned,
         passes,
-    } = pll_configure(cfgr)?;
+    } = match pll_configure(cfgr) {
+        Ok(configured) => configured,
+        Err(unplanned) => return Err(unplanned),
+    };
     let unplanned = |refusal| Unplanned { refusal, passes };
     let derived = calculate_clocks(planned).map_err(unplanned)?;
     check_late(planned).map_err(unplanned)?;

@@ -263,10 +263,13 @@ module _ (lo v : ℕ) where
   pub highest_q_top : lo * 15 ≤ v → 15 ≡ highest q_dividers lo v
   highest_q_top a = sym (highest_here 15 _ lo v a)
 
+  pub highest_q_small : v < lo * 15 → v / lo < 15
+  highest_q_small a = let pos : 0 < lo = omega arith in (div-lt_iff_lt-mul pos).1 (rw (mul_comm 15 lo) a)
+
   pub highest_q_quotient : v < lo * 15 → 2 ≤ v / lo → v / lo ≡ highest q_dividers lo v
   highest_q_quotient a b =
       let pos : 0 < lo = omega arith in
-      let t : v / lo < 15 = (div-lt_iff_lt-mul pos).1 (rw (mul_comm 15 lo) a) in
+      let t = highest_q_small a in
       sym (highest_is q_dividers lo v (v / lo) tt (in_down 15 (v / lo) b (omega arith)) (mul-div-le v lo) (λ x g h. (le-div_iff_mul-le pos).1 (rw (mul_comm x lo) h)))
 
   pub highest_q_none : v < lo * 15 → v / lo < 2 → 0 ≡ highest q_dividers lo v

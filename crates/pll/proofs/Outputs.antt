@@ -14,6 +14,13 @@ both true true h = (refl, refl)
 both true false h = absurd (true≢false (sym h))
 both false t h = absurd (true≢false (sym h))
 
+-- a test that is another, and its answer
+pub passed : {r t : Bool} → r ≡ t → r ≡ true → t ≡ true
+passed a b = sym a ∙ b
+
+pub failed : {r t : Bool} → r ≡ t → r ≡ false → t ≡ false
+failed a b = sym a ∙ b
+
 -- a test that x lies between lo and hi, as two facts and back
 pub inside_told : (lo hi x : ℕ) → inside lo hi x ≡ true → (lo ≤ x) × (x ≤ hi)
 inside_told lo hi x e = let h = both (leb lo x) (leb x hi) e in (leb-true lo x h.0, leb-true x hi h.1)

@@ -13,7 +13,7 @@ use Rattle.kinds.specs.declared.PLLP.{PLLP}
 use Rattle.kinds.specs.declared.PLLP.TheVariants.{Div2, Div4, Div6, Div8}
 use Rattle.kinds.specs.declared.HSEClock.{HSEClock}
 use Rattle.kinds.specs.declared.HSEClock.TheVariants.{Oscillator, Bypass}
-use Rattle.pll.specs.Fixed.{InputOk, vco_of, out_of, output_of}
+use Rattle.pll.specs.Fixed.{InputOk, SettingsOk, vco_of, out_of, output_of}
 use Rattle.pll.proofs.Theorems.{output_given}
 
 pub input_within : (h : Option HSEClock) → HseWithin h → InputOk (input_of h)
@@ -27,6 +27,12 @@ p_range Div2 = record { low = omega arith; high = omega arith }
 p_range Div4 = record { low = omega arith; high = omega arith }
 p_range Div6 = record { low = omega arith; high = omega arith }
 p_range Div8 = record { low = omega arith; high = omega arith }
+
+-- an M and an N within their limits, and a P
+pub p_settings : (m n : ℕ) (p : PLLP) {d : ℕ} → Between 2 63 m → Between 50 432 n → d ≡ p_divider_of p → SettingsOk m n d
+p_settings m n p a b e =
+    let r = p_range p in
+    rw e (record { m_low = a.low; m_high = a.high; n_low = b.low; n_high = b.high; d_low = r.low; d_high = omega (arith, r.high) })
 
 -- ---- what the check leaves of an output's settings
 module _ (c : CFGR) (k : check_of c ≡ 0) where

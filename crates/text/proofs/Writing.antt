@@ -63,6 +63,9 @@ stands {s} {t} {x} {i} {j} a h = a.is ∙ sets-eq x s i h ∙ ap (λ (n : ℕ). 
 pub roomy : (a b : ℕ) {r : Bool} → r ≡ leb a b → r ≡ true → a ≤ b
 roomy a b e f = leb-true a b (sym e ∙ f)
 
+pub scarce : (a b : ℕ) {r : Bool} → r ≡ leb a b → r ≡ false → b < a
+scarce a b e f = leb-false a b (sym e ∙ f)
+
 -- with room the text is placed
 pub placed : {s x t : List ℕ} {i most n : ℕ} → i + most ≤ length s → n ≤ i + most → Wrote s i x t n → Placing s i x most t (Some n)
 placed {s} {x} {t} {i} {most} {n} h l a = record {

@@ -11,6 +11,7 @@ ghost use Rattle.pll.specs.Walk.{search_of};
 ghost use Rattle.numbers.specs.Answers.{window_of};
 ghost use Rattle.woolturret.specs.Replies.{Replied, check_reply, set_reply, call_reply, search_reply, Told};
 ghost use Rattle.numbers.specs.Plans.{Configures, Derives, Plans};
+ghost use Rattle.numbers.specs.Plans as replies;
 ghost use Rattle.woolturret.specs.Plans.{configure_reply, derive_reply, plan_reply};
 ghost use Rattle.woolturret.specs.Lines.{Lines};
 ghost use Rattle.woolturret.specs.Starts.{Starts, start_reply};
@@ -19,7 +20,7 @@ ghost use Rattle.calls.specs.Named.{named_of};
 use answer::put_answer;
 use calls::Setter;
 use clocks::calculate_clocks;
-use configure::pll_configure;
+use configure::{Unplanned, pll_configure};
 use kinds::{CFGR, Divider, Factor, Hertz, Refusal};
 use numbers::{CLOCKS, CONFIG, SEARCH, answers, plans};
 use plan::plan;
@@ -115,6 +116,19 @@ pub extern "C" fn woolturret_output(input: u32, m: u32, n: u32, d: u32, out: &mu
     }
 }
 
+// An answer with its refusal by its number: as it is told with the passes, and alone.
+fn told<T: Drop>(answer: Result<T, Unplanned>) -> Result<T, plans::Refused>
+    ensures { result ≡ replies.told answer }
+{
+    Ok(answer?)
+}
+
+fn numbered<T: Drop>(answer: Result<T, Refusal>) -> Result<T, u32>
+    ensures { result ≡ replies.numbered answer }
+{
+    Ok(answer?)
+}
+
 // pll_configure of the configuration that a record holds: its number, the configuration as planned in config, the search's passes.
 // Refused, config is as it was; passes are told in every case, 0 where no search ran.
 #[unsafe(no_mangle)]
@@ -130,7 +144,7 @@ pub extern "C" fn woolturret_configure(
             *passes = 0;
             u32::from(Refusal::Malformed)
         }
-        Ok(cfgr) => plans::configured(pll_configure(cfgr), config, passes),
+        Ok(cfgr) => plans::configured(told(pll_configure(cfgr)), config, passes),
     }
 }
 
@@ -142,7 +156,7 @@ pub extern "C" fn woolturret_derive(bytes: &[u8], clocks: &mut [u32; CLOCKS]) ->
 {
     match record::read_record(bytes) {
         Err(_) => u32::from(Refusal::Malformed),
-        Ok(cfgr) => plans::derived(calculate_clocks(cfgr), clocks),
+        Ok(cfgr) => plans::derived(numbered(calculate_clocks(cfgr)), clocks),
     }
 }
 
@@ -162,7 +176,7 @@ pub extern "C" fn woolturret_plan(
             *passes = 0;
             u32::from(Refusal::Malformed)
         }
-        Ok(cfgr) => plans::planned(plan(cfgr), config, clocks, passes),
+        Ok(cfgr) => plans::planned(told(plan(cfgr)), config, clocks, passes),
     }
 }
 
